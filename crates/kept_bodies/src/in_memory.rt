@@ -98,6 +98,8 @@ impl Keeper for InMemory {
         self.bytes.clear();
     }
 
+    fn note_changed(&mut self, _last_modified: Option<&[u8]>) {}
+
     fn add(&mut self, piece: &[u8]) -> Result<(), AllocError> {
         self.bytes.extend_from_slice(piece)
     }

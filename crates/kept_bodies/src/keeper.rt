@@ -6,7 +6,7 @@ use crate::body_kind::BodyKind;
 use std::alloc::AllocError;
 
 /// Keeps bodies of responses, one after another, each while it arrives. What a keeper can't keep it tells by the body that it
-/// hands out; its calls answer want of memory alone.
+/// hands out; its calls fail only if memory runs out.
 pub trait Keeper: Drop {
     /// A body that was kept, or what stands for it.
     type Kept: Drop;
@@ -21,7 +21,11 @@ pub trait Keeper: Drop {
     fn begin(&mut self)
         ensures { begun self.new [] };
 
-    /// Adds the next bytes of the body. The error is want of memory.
+    /// Learns when the page of the body that was begun changed: the value of its `Last-Modified` (RFC 9110, section 8.8.2), if it has one.
+    fn note_changed(&mut self, last_modified: Option<&[u8]>)
+        ensures { (front : List ℕ) → begun self.old front → begun self.new front };
+
+    /// Adds the next bytes of the body. The error is out of memory.
     fn add(&mut self, piece: &[u8]) -> Result<(), AllocError>
         ensures { OnOk result ((front : List ℕ) → begun self.old front → begun self.new (front ++ piece.now)) };
 

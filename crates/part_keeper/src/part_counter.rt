@@ -31,6 +31,8 @@ impl Keeper for PartCounter {
         self.len = 0;
     }
 
+    fn note_changed(&mut self, _last_modified: Option<&[u8]>) {}
+
     fn add(&mut self, piece: &[u8]) -> Result<(), AllocError> {
         let Some(len) = self.len.checked_add(piece.len() as u64) else {
             return Err(AllocError);

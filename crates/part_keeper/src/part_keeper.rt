@@ -1,14 +1,15 @@
 //! What keeps bodies in files.
 ghost use Rattle.std.specs.Prelude.{◌≡◌, ◌+◌, ℕ, List, length, OnOk, IfOk, OnErr};
 
+use crate::file_time::{file_time, set_time};
 use crate::part::{Part, Standing, part_path};
 use crate::parts_dir::{PartsDir, WorkerDir, lacks_descriptor};
 use kept_bodies::{BodyKind, Keeper};
 use std::alloc::{AllocError, Global};
-use std::fs::{File, FileTimes, Files, OpenFile};
+use std::fs::{File, Files};
 use std::io::{Error, Write};
 use std::sync::Wait;
-use std::time::{Duration, SystemTime, UNIX_EPOCH};
+use std::time::SystemTime;
 use std::{io, mem};
 use streams::{Close, Lock};
 
@@ -29,6 +30,9 @@ pub struct PartKeeper<'a, R: Files> {
     buffer: Vec<u8>,
     file: Option<R::File>,
     len: u64,
+    takes_times: bool,
+    // When the page of the body that was begun changed, if its file is to say so.
+    changed: Option<SystemTime>,
     // Why the body that was begun isn't kept.
     error: Option<Error>,
 }
@@ -46,23 +50,25 @@ impl<'a, R: Files> Drop for PartKeeper<'a, R> {
             buffer: _buffer,
             file: _file,
             len: _len,
+            takes_times: _takes_times,
+            changed: _changed,
             error: _error,
         } = self;
     }
-}
-
-// Has the file at a path say that it was changed at this time.
-fn set_time<R: Files>(rt: &R, path: &str, time: SystemTime) -> io::Result<()> {
-    let file = File::open(rt, path)?;
-    file.set_times(FileTimes::new().set_modified(time))
 }
 
 impl<'a, R: Files + Wait> PartKeeper<'a, R>
 where
     R::File: Close + Lock,
 {
-    /// Keeps the bodies of one worker below this directory. Takes no memory, and makes nothing before a body comes.
-    pub fn new(rt: &'a R, alloc: Global, parts: &'a PartsDir<R::File>) -> PartKeeper<'a, R> {
+    /// Keeps the bodies of one worker below this directory. If `takes_times`, a file gets the time at which its page changed, if that is
+    /// said. Takes no memory, and makes nothing before a body comes.
+    pub fn new(
+        rt: &'a R,
+        alloc: Global,
+        parts: &'a PartsDir<R::File>,
+        takes_times: bool,
+    ) -> PartKeeper<'a, R> {
         PartKeeper {
             rt,
             alloc,
@@ -73,24 +79,9 @@ where
             buffer: Vec::new(alloc),
             file: None,
             len: 0,
+            takes_times,
+            changed: None,
             error: None,
-        }
-    }
-
-    /// Has the file of a part, which has no name yet, say that its page changed at this time, in seconds since 1970. If there is no
-    /// file there is nothing to do. After an error, which is the system's, it says when it was written.
-    pub fn date(&self, part: &Part, seconds: u64) -> io::Result<()> {
-        let Some(time) = UNIX_EPOCH.checked_add(Duration::from_secs(seconds)) else {
-            return Ok(());
-        };
-        let path = part_path(self.alloc, self.dir.as_str(), part.worker, part.number)?;
-        match part.standing {
-            Standing::Whole => set_time(self.rt, path.as_str(), time),
-            Standing::Waiting => {
-                self.parts.date_late(self.rt, path.as_str(), time);
-                Ok(())
-            }
-            Standing::Named | Standing::Lost | Standing::Absent => Ok(()),
         }
     }
 
@@ -169,12 +160,15 @@ where
         }
     }
 
-    // Closes the file of the body.
+    // Closes the file of the body, which then says when its page changed.
     fn close(&mut self) -> io::Result<()>
         ensures { self.new.len ≡ self.old.len }
     {
         match self.file.take() {
-            Some(file) => file.close(),
+            Some(file) => {
+                set_time(&file, self.changed);
+                file.close()
+            }
             None => Ok(()),
         }
     }
@@ -185,7 +179,7 @@ where
     {
         let path = self.path()?;
         let bytes = mem::replace(&mut self.buffer, Vec::new(self.alloc));
-        self.parts.put_off(self.rt, path, bytes)
+        self.parts.put_off(self.rt, path, bytes, self.changed)
     }
 
     // The number of the reason for which the body was lost. If there is no memory for it nobody is told.
@@ -235,8 +229,13 @@ where
             self.take_away();
         }
         self.buffer.clear();
+        self.changed = None;
         self.error = None;
         self.len = 0;
+    }
+
+    fn note_changed(&mut self, last_modified: Option<&[u8]>) {
+        self.changed = file_time(self.takes_times, last_modified);
     }
 
     fn add(&mut self, piece: &[u8]) -> Result<(), AllocError> {

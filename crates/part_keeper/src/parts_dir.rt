@@ -1,8 +1,9 @@
 //! Where the keepers of a run put bodies until these get their names.
+use crate::file_time::set_time;
 use crate::own_dir::{OwnDir, make_own_dir};
 use crate::part::{Part, Standing};
 use std::alloc::{AllocError, Global};
-use std::fs::{File, FileTimes, Files, OpenFile};
+use std::fs::{File, Files};
 use std::io::{ErrorKind, Write};
 use std::sync::{Mutex, Wait};
 use std::time::SystemTime;
@@ -27,8 +28,8 @@ pub fn lacks_descriptor(error: &io::Error) -> bool {
 struct Late {
     path: String,
     bytes: Vec<u8>,
-    // When its page changed, if that is known.
-    modified: Option<SystemTime>,
+    // When its page changed, if its file is to say so.
+    changed: Option<SystemTime>,
 }
 
 // What a run has of its directory.
@@ -95,10 +96,7 @@ where
         let _ = rt.remove_file(path);
         return Err(error);
     }
-    if let Some(time) = late.modified {
-        // A disk without times keeps the body all the same.
-        let _ = file.set_times(FileTimes::new().set_modified(time));
-    }
+    set_time(&file, late.changed);
     file.close()
 }
 
@@ -170,15 +168,6 @@ fn push_late<F: Drop>(made: &mut Made<F>, late: Late) -> Result<(), AllocError> 
     Ok(())
 }
 
-// The page of the body that is to be written later at this path changed at this time.
-fn date_late<F: Drop>(made: &mut Made<F>, path: &str, time: SystemTime) {
-    for late in &mut made.late {
-        if late.path.as_str() == path {
-            late.modified = Some(time);
-        }
-    }
-}
-
 // A part was lost for this reason. Gives its number among those.
 fn lose<F: Drop>(made: &mut Made<F>, error: io::Error) -> Result<usize, AllocError> {
     let number = made.lost.len();
@@ -240,24 +229,20 @@ impl<F: Lock + Close + Drop> PartsDir<F> {
         path_of(self.alloc, &mut self.made.lock(rt))
     }
 
-    // Has a body written once there is a descriptor.
+    // Has a body written once there is a descriptor, whose page changed at this time, if its file is to say so.
     pub(crate) fn put_off<R: Wait>(
         &self,
         rt: &R,
         path: String,
         bytes: Vec<u8>,
+        changed: Option<SystemTime>,
     ) -> Result<(), AllocError> {
         let late = Late {
             path,
             bytes,
-            modified: None,
+            changed,
         };
         push_late(&mut self.made.lock(rt), late)
-    }
-
-    // The page of the body that is to be written at this path changed at this time.
-    pub(crate) fn date_late<R: Wait>(&self, rt: &R, path: &str, time: SystemTime) {
-        date_late(&mut self.made.lock(rt), path, time);
     }
 
     // A part was lost for this reason. Gives its number among those.

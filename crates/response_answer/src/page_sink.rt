@@ -144,7 +144,7 @@ impl<K: Keeper> PageSink<K> {
         ensures retry_after { OnOk result (self.new.retry_after ≡ (head_parts head.now).retry_after) }
         ensures last_modified { OnOk result (self.new.last_modified ≡ (head_parts head.now).last_modified) }
         ensures etag { OnOk result (self.new.etag ≡ (head_parts head.now).etag) }
-        ensures keeper { self.new.keeper ≡ self.old.keeper }
+        ensures keeper { (bytes : List ℕ) → K.begun self.old.keeper bytes → K.begun self.new.keeper bytes }
         ensures failed { self.new.failed ≡ self.old.failed }
     {
         let fields = HeadKind {
@@ -162,6 +162,7 @@ impl<K: Keeper> PageSink<K> {
         self.retry_after = copy_of(self.alloc, &head.retry_after)?;
         self.last_modified = copy_of(self.alloc, &head.last_modified)?;
         self.etag = copy_of(self.alloc, &head.etag)?;
+        self.keeper.note_changed(bytes_of(&self.last_modified));
         Ok(())
     }
 

@@ -1,10 +1,8 @@
--- What a site may answer whose bodies are kept in parts, and the times of their files.
-use Rattle.std.specs.Prelude.{ℕ, Bool, List, Option, None, if◌then◌else◌, option_and_then}
+-- What a site may answer whose bodies are kept in parts.
 use Rattle.address.specs.Address.{AddressText, OriginText}
 use Rattle.robots_rules.specs.Access.{RuleSetValue}
 use Rattle.http_fetcher.specs.Meanings.{MayRule}
 use Rattle.fetcher.specs.declared.outcome.Outcome.{Outcome}
-use Rattle.part_keeper.specs.FileTimes.{time_of}
 use Rattle.part_keeper.specs.Parts.{holds_part}
 use Rattle.part_keeper.specs.declared.part.Part.{Part}
 use Rattle.response_reader.specs.Limits.{Limited}
@@ -27,7 +25,3 @@ MayAnswerIn site at x part = StandsForAnswer holds_part site.1 site.0 at (record
 -- which rules an origin may have: robots files are as long as they may be elsewhere
 abbrev pub MayRuleIn : PartsSite → OriginText → RuleSetValue → Type 0
 MayRuleIn site of rules = MayRule site.0 of rules
-
--- the time that the file of a page gets whose response has this Last-Modified, if it has one
-abbrev pub time_said : Bool → Option (List ℕ) → Option ℕ
-time_said takes_times last_modified = if takes_times then option_and_then time_of last_modified else None

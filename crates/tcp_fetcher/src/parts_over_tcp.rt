@@ -1,12 +1,12 @@
 //! What asks over TCP for one worker, and has the bodies kept in files while they arrive.
-ghost use Rattle.std.specs.Prelude.{◌≡◌, ◌++◌, ◌∷◌, [], IfOk, OnErr, OnOk, option_map};
+ghost use Rattle.std.specs.Prelude.{◌≡◌, ◌++◌, ◌∷◌, [], IfOk, OnErr, OnOk};
 ghost use Rattle.fetcher.specs.Logs.{GainedAtMost};
 ghost use Rattle.fetcher.specs.declared.fetcher.Ask.TheVariants as ask;
 ghost use Rattle.http_fetcher.specs.Fetching.{with_condition};
 ghost use Rattle.part_keeper.specs.Parts.{holds_part};
 ghost use Rattle.retries.specs.Keeping.{MayKeep, asks_of, is_worth_answer};
 ghost use Rattle.retries.specs.Tries.{IsLastOf};
-ghost use Rattle.tcp_fetcher.specs.PartsFetching.{MayAnswerIn, MayRuleIn, PartsSite, parts_site, time_said};
+ghost use Rattle.tcp_fetcher.specs.PartsFetching.{MayAnswerIn, MayRuleIn, PartsSite, parts_site};
 
 use crate::earlier::{Earlier, PageNote};
 use crate::over_tcp::OverTcp;
@@ -18,7 +18,7 @@ use fetcher::{Answer, Ask, FaultKind, Fetcher, Outcome};
 use http_fetcher::answer_over;
 use kept_bodies::BodyKind;
 use mirror_index::KeptHead;
-use part_keeper::{Part, PartCounter, PartKeeper, PartsDir, Standing, lacks_descriptor, time_of};
+use part_keeper::{Part, PartCounter, PartKeeper, PartsDir, Standing};
 use requests::Condition;
 use response_answer::PageSink;
 use response_reader::TcpWire;
@@ -99,12 +99,10 @@ where
     ) -> PartsOverTcp<'a, R>
         ensures { result ≡ inner.entry }
     {
+        let keeper = PartKeeper::new(rt, alloc, parts, inner.takes_times());
         PartsOverTcp {
             inner,
-            sink: PageSink::new(
-                alloc,
-                Digesting::new(PartKeeper::new(rt, alloc, parts), earlier.is_some()),
-            ),
+            sink: PageSink::new(alloc, Digesting::new(keeper, earlier.is_some())),
             passing: PageSink::new(alloc, PartCounter::new()),
             rules,
             earlier,
@@ -120,25 +118,6 @@ where
         ensures { self.new ≡ record self.old { sends = with_condition condition self.old.sends; single = record self.old.single { sends = with_condition condition self.old.single.sends } } }
     {
         self.inner.set_condition(condition);
-    }
-
-    // Has the file of an answer, which is of the response that was taken last, say when its page changed, if that response says so. If
-    // it needs a descriptor, connections that wait are ended. What the system refuses is left: the file says when it was written.
-    fn date(&self, answer: &Result<Answer<Part>, AllocError>) {
-        let Ok(answer) = answer else {
-            return;
-        };
-        let Some(seconds) = time_said(self.inner.takes_times(), self.sink.last_modified()) else {
-            return;
-        };
-        let keeper = self.sink.keeper().inner();
-        match keeper.date(&answer.body, seconds) {
-            Err(error) if lacks_descriptor(&error) => {
-                self.kept.end_waiting(self.rt);
-                let _ = keeper.date(&answer.body, seconds);
-            }
-            _ => {}
-        }
     }
 
     // The page of an earlier run, whose file has the bytes that it had, if there is one.
@@ -257,17 +236,6 @@ fn copy_of(alloc: Global, value: Option<&[u8]>) -> Result<Option<Vec<u8>>, Alloc
     }
 }
 
-// The time that the file of a page gets whose response says this, if it gets one.
-fn time_said(takes_times: bool, last_modified: Option<&[u8]>) -> Option<u64>
-    ensures { result ≡ time_said takes_times (option_map (λ value. value.now) last_modified.entry) }
-{
-    if takes_times {
-        time_of(last_modified?)
-    } else {
-        None
-    }
-}
-
 // Whether a page of this address is kept.
 fn keeps(rules: &Option<Arc<EarlyRules>>, page: &Address) -> bool {
     match rules {
@@ -319,7 +287,6 @@ where
             return self.inner.ask_into(&mut self.passing, at);
         }
         let answer = self.ask_kept(at);
-        self.date(&answer);
         write_late(self.rt, self.kept, self.parts);
         answer
     }
