@@ -72,7 +72,6 @@ impl<K: Keeper> Keeper for Digesting<K> {
 
     fn note_changed(&mut self, last_modified: Option<&[u8]>)
         ensures begun { (front : List ℕ) → IsDigested K.begun self.old front → IsDigested K.begun self.new front }
-        ensures last { self.new.last ≡ self.old.last }
         ensures is_digesting { self.new.is_digesting ≡ self.old.is_digesting }
     {
         self.inner.note_changed(last_modified);
