@@ -24,7 +24,7 @@ rows = refl
 pub has_row : (kind : FaultKind) → place_of kind < length words
 has_row kind = search rules
 
--- each row stands in its fault's place
+-- each row is in its fault's place
 own_places : map word_of kinds ≡ words
 unfolding word_of
 own_places = refl
@@ -53,7 +53,7 @@ differs r text w is unequal = search rules
 pub none_of_all : {T : Type 0} (w : List ℕ) (f : T → List ℕ) (xs : List T) (i : ℕ) → length xs ≤ i → All (λ text. w ≢ text) (map f (take i xs)) → All (λ text. w ≢ text) (map f xs)
 none_of_all w f xs i past none = subst (λ rows. All (λ text. w ≢ text) (map f rows)) (take_all i xs past) none
 
--- what stands in a place of a list stands there in its image
+-- what is in a place of a list is there in its image
 in_image : {T A : Type 0} (f : T → A) (xs : List T) (i : ℕ) (d : T) (a : A) → i < length xs → f (get_or xs i d) ≡ a → slice_get (map f xs) i ≡ Some a
 in_image f xs i d a within same = slice_get-map f xs i ∙ ap (option_map f) (slice_get-get_or xs i d within) ∙ ap Some same
 
@@ -76,14 +76,14 @@ own_word w kind k word at =
     let same : slice_get (map word_of kinds) k ≡ slice_get words k = ap (λ texts. slice_get texts k) own_places in
     ap (λ found. unwrap_or found []) (sym word ∙ sym same ∙ slice_get-map word_of kinds k ∙ ap (option_map word_of) at)
 
--- a row that has the word tells its fault, and where none has it is that of no fault
+-- a row that has the word gives its fault, and if none has it, it is that of no fault
 pub found : (w : List ℕ) (r : Option FaultKind)
     → MatchOption r (All (λ text. w ≢ text) words) (λ kind. (k : ℕ) × (slice_get words k ≡ Some w) × (slice_get kinds k ≡ Some kind))
     → MatchOption r ((kind : FaultKind) → w ≢ word_of kind) (λ kind. w ≡ word_of kind)
 found w None h = no_word w h
 found w (Some kind) (k, word, at) = own_word w kind k word at
 
--- the fault of a word, where it is one
+-- the fault of a word, if it is one
 unfoldable pub kind_of : List ℕ → Option FaultKind
 kind_of word = option_map (λ row. row.kind) (find (λ row. bytes_eq word row.word.now) TABLE)
 

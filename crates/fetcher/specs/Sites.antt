@@ -13,12 +13,12 @@ pub record SiteAnswers : Type 0 where
   pub outcome : List ℕ → Outcome
   pub rules : List ℕ → RuleSetValue
 
--- the body of an outcome that is told alone: no bytes, which are HTML if it is a page
+-- the body of an outcome that comes alone: no bytes, which are HTML if it is a page
 abbrev pub bare_body : Outcome → BodyValue
 bare_body (Page status links) = record { kind = Html; bytes = [] }
 bare_body other = no_body
 
--- such a site gives an address its outcome, with the body of an outcome that is told alone
+-- such a site gives an address its outcome, with the body of an outcome that comes alone
 abbrev pub GivesOutcome : SiteAnswers → List ℕ → Outcome → BodyValue → Type 0
 GivesOutcome site at x body = (x ≡ site.outcome at) × (body ≡ bare_body x)
 

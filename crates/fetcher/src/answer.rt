@@ -11,12 +11,12 @@ use std::alloc::Global;
 pub struct Answer<B> {
     /// What became of the address.
     pub outcome: Outcome,
-    /// The body, or what stands for it; that of no bytes unless the status is 200 to 299.
+    /// The body, or what represents it; that of no bytes unless the status is 200 to 299.
     pub body: B,
 }
 
 impl Answer<Body> {
-    /// The answer of a site that tells outcomes alone: its body has no bytes, and is HTML if the outcome is a page. Takes no
+    /// The answer of a site that gives outcomes alone: its body has no bytes, and is HTML if the outcome is a page. Takes no
     /// memory.
     pub fn bare(alloc: Global, outcome: Outcome) -> Answer<Body>
         ensures outcome { result.outcome ≡ outcome }

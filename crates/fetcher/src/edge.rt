@@ -12,7 +12,7 @@ use std::sync::Arc;
 pub enum EdgeKind {
     /// A link that a reader may follow.
     Link,
-    /// Something that the page shows within itself, as an image.
+    /// Something that the page shows within itself, such as an image.
     Inline,
     /// The target of a redirect (RFC 9110, section 15.4).
     Redirect,
@@ -35,7 +35,7 @@ impl Edge {
         self.kind == other.kind && self.target == other.target
     }
 
-    /// An equal edge, or an error where memory ran out.
+    /// An equal edge, or an error if memory ran out.
     pub fn try_clone(&self) -> Result<Edge, AllocError>
         ensures { IfOk result (λ copy. copy ≡ self.now) }
     {
@@ -79,7 +79,7 @@ impl Model for Edges {
 
 impl Edges {
     /// The edges of a list, to be shared from now on. Room that the list doesn't need is given back, as it may be held for long.
-    /// The error is that memory is wanting.
+    /// Fails only if memory runs out.
     pub fn new(mut items: Vec<Edge>) -> Result<Self, AllocError>
         ensures { IfOk result (λ edges. edges ≡ items.items) }
     {

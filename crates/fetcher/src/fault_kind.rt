@@ -35,7 +35,7 @@ pub enum FaultKind {
     BodyLong,
 }
 
-// What is told of a fault. The type of its text is a parameter, since definitions can cite a constant of such a type, and
+// What is reported of a fault. The type of its text is a parameter, since definitions can cite a constant of such a type, and
 // none with a reference of its own.
 #[derive(Clone, Copy)]
 struct Row<T> {
@@ -122,7 +122,7 @@ impl FaultKind {
     }
 }
 
-// The fault of a row that has this word, where one of these rows has.
+// The fault of a row that has this word, if one of these rows has.
 fn kind_among(rows: &[Row<&str>], word: &str) -> Option<FaultKind>
     ensures { MatchOption result (All (λ text. word.now ≢ text) (map (λ row. row.word.now) rows.now)) (λ kind. (k : ℕ) × (slice_get (map (λ row. row.word.now) rows.now) k ≡ Some word.now) × (slice_get (map (λ row. row.kind) rows.now) k ≡ Some kind)) }
 {

@@ -22,7 +22,7 @@ pub enum Ask {
 impl Ask {
     ghost use Rattle.std.specs.Prelude.{◌≡◌, IfOk};
 
-    /// An equal ask, or an error where memory ran out.
+    /// An equal ask, or an error if memory ran out.
     pub fn try_clone(&self) -> Result<Ask, AllocError>
         ensures { IfOk result (λ copy. copy ≡ self.now) }
     {
@@ -46,7 +46,7 @@ impl Clone for Ask {
 /// Fetches pages and robots rules of one site. Each ask is logged before anything is asked of the
 /// site.
 pub trait Fetcher: Drop {
-    /// A body as this fetcher hands it out: its bytes, or what stands for them elsewhere.
+    /// A body as this fetcher hands it out: its bytes, or what represents them elsewhere.
     type Body: Drop;
 
     /// What the site is, as far as its answers go.
@@ -64,18 +64,17 @@ pub trait Fetcher: Drop {
     /// What was asked, in order.
     ghost log: { Self → List Ask };
 
-    /// Asks for the page of an address. The answer is one that the site may give; the ask is
-    /// logged, and the site stays what it is. The error is want of memory: then the log is
-    /// unchanged or has gained this ask.
+    /// Requests the page of an address. The answer is one that the site may give; the request is logged, and the site
+    /// stays what it is. Fails only if memory runs out: then the log is unchanged or has gained this request.
     fn ask(&mut self, at: &Address) -> Result<Answer<Self::Body>, AllocError>
         ensures site { site self.new ≡ site self.old }
         ensures told { IfOk result (λ a. says (site self.old) at.now a.outcome a.body) }
         ensures asked { OnOk result (log self.new ≡ log self.old ++ Ask.Page at.now ∷ []) }
         ensures refused { OnErr result (GainedAtMost (log self.old) (log self.new) (Ask.Page at.now)) };
 
-    /// Asks for the robots rules of an origin. The rule set is one that the origin may have; the
-    /// ask is logged, and the site stays what it is. The error is want of memory: then the log is
-    /// unchanged or has gained this ask.
+    /// Requests the robots rules of an origin. The rule set is one that the origin may have; the request is logged,
+    /// and the site stays what it is. Fails only if memory runs out: then the log is unchanged or has gained this
+    /// request.
     fn ask_robots(&mut self, of: &Origin) -> Result<RuleSet, AllocError>
         ensures site { site self.new ≡ site self.old }
         ensures told { IfOk result (λ r. rules (site self.old) of.now r) }
@@ -86,7 +85,7 @@ pub trait Fetcher: Drop {
     fn asks(&self) -> &[Ask]
         ensures { result.now ≡ log self.now };
 
-    /// Is told that one more answer came from a record in place of the site, for somebody who looks on. Nothing that is asked or
+    /// Called when an answer came from a record in place of the site, for a progress display. Nothing that is requested or
     /// answered depends on it.
     fn tell_recorded(&mut self)
         ensures site { site self.new ≡ site self.old }

@@ -1,7 +1,7 @@
-//! Asking and answering: what may become of an address that is asked for, and who is asked. Its one idea: a fetcher's
-//! answers are those that its site may give, and each ask stands in its log. What that means stands in `specs/`:
-//! `Outcomes` where an outcome leads, `Statuses` which are successes and redirects, `FaultWords` the table of faults, `Logs` what a log gains, `Sites` the sites that give each address one outcome.
-//! Its tests stand in `site_tests`.
+//! Requests and answers: what may become of an address that is requested, and who requests it. Its one idea: a fetcher's answers are those that its
+//! site may give, and each request is in its log. What that means is in `specs/`: `Outcomes` says where an outcome leads, `Statuses` which are
+//! successes and redirects, `FaultWords` is the table of faults, `Logs` says what a log gains, `Sites` are the sites that give each address one
+//! outcome. Its tests are in `site_tests`.
 #![tactic(auto)]
 
 mod answer;

@@ -1,10 +1,10 @@
-//! Outcomes: what became of an address that was asked for.
+//! Outcomes: what became of an address that was requested.
 use crate::edge::{EdgeKind, Edges, share_text};
 use crate::fault_kind::FaultKind;
 use address::Address;
 use std::alloc::AllocError;
 
-/// What became of an address that was asked for. A status is that of the response (RFC 9110,
+/// What became of an address that was requested. A status is that of the response (RFC 9110,
 /// section 15).
 #[derive(Drop, Debug)]
 pub enum Outcome {

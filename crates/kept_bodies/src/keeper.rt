@@ -8,10 +8,10 @@ use std::alloc::AllocError;
 /// Keeps bodies of responses, one after another, each while it arrives. What a keeper can't keep it tells by the body that it
 /// hands out; its calls fail only if memory runs out.
 pub trait Keeper: Drop {
-    /// A body that was kept, or what stands for it.
+    /// A body that was kept, or what represents it.
     type Kept: Drop;
 
-    // Which body a kept one may be. One that tells nothing may be any.
+    // Which body a kept one may be. One of which nothing is known may be any.
     ghost holds: { Self.Kept → BodyValue → Type 0 };
 
     // Which bytes may have been added since the body was begun.

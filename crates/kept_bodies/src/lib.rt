@@ -1,6 +1,6 @@
 //! Where the body of a response goes while it arrives: into memory, or elsewhere. Its one idea: a trait between who reads
-//! responses and who keeps their bodies, so that a body needs to be nowhere whole but where it is kept, with what it is. It
-//! opens nothing. What contracts see of a body is in `specs/`. Its tests stand in `site_tests`.
+//! responses and who keeps their bodies, so that a body needs to be nowhere whole except where it is kept, with what it is.
+//! It opens nothing. What contracts see of a body is in `specs/`. Its tests are in `site_tests`.
 #![tactic(auto)]
 
 mod body_kind;

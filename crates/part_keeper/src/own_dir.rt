@@ -28,7 +28,7 @@ pub struct OwnDir<F> {
     lock: Option<F>,
 }
 
-// What came of trying to hold a file.
+// The result of trying to hold a file.
 #[derive(Drop)]
 enum Held<F> {
     // It is held here from now on.

@@ -13,12 +13,12 @@ use std::time::SystemTime;
 use std::{io, mem};
 use streams::{Close, Lock};
 
-/// How many bytes of a body stand in memory before it gets a file.
+/// How many bytes of a body are in memory before it gets a file.
 const BUFFER: usize = 64 * 1024;
 
 /// Keeps the bodies of one worker, each in a file of its own below the directory of a run's parts. A short body is written in one
 /// call once it is whole, so a file is open for long only if a body is long. If there is no descriptor for a file, its body waits in
-/// memory. If it can't be written for another reason, what comes of its body is counted and not kept, and the part says so.
+/// memory. If it can't be written for another reason, what arrives of its body is counted and not kept, and the part says so.
 pub struct PartKeeper<'a, R: Files> {
     rt: &'a R,
     alloc: Global,
@@ -103,7 +103,7 @@ where
         File::create_new(self.rt, path.as_str())
     }
 
-    // Writes what stands in memory, and then these bytes, into the file of the body, which is made if there is none.
+    // Writes what is in memory, and then these bytes, into the file of the body, which is made if there is none.
     fn write(&mut self, bytes: &[u8]) -> io::Result<()>
         ensures { self.new.len ≡ self.old.len }
     {
@@ -118,7 +118,7 @@ where
         Ok(())
     }
 
-    // Takes away what stands of the body.
+    // Takes away what is there of the body.
     fn take_away(&mut self)
         ensures { self.new.len ≡ self.old.len }
     {
@@ -182,7 +182,7 @@ where
         self.parts.put_off(self.rt, path, bytes, self.changed)
     }
 
-    // The number of the reason for which the body was lost. If there is no memory for it nobody is told.
+    // The number of the reason for which the body was lost. If there is no memory for it, it isn't reported.
     fn reason(&self, error: Error) -> u32 {
         match self.parts.lose(self.rt, error) {
             Ok(number) => u32::try_from(number).unwrap_or(u32::MAX),

@@ -44,7 +44,7 @@ struct Made<F> {
     // How many workers were to have a directory in it.
     workers: u32,
     late: Vec<Late>,
-    // Why parts were lost, until that is told.
+    // Why parts were lost, until that is reported.
     lost: Vec<Option<io::Error>>,
 }
 
@@ -100,7 +100,7 @@ where
     file.close()
 }
 
-// What stands under the lock is lent to functions of its own: there no way out of them lets go of the lock.
+// These functions take `&mut` to what is under the lock, so that no early return of theirs releases it.
 
 // Makes the directory, unless it is there. Its path.
 fn make<R: Files>(rt: &R, alloc: Global, made: &mut Made<R::File>) -> io::Result<String>
@@ -175,7 +175,7 @@ fn lose<F: Drop>(made: &mut Made<F>, error: io::Error) -> Result<usize, AllocErr
     Ok(number)
 }
 
-// Why the one of this number was lost; nobody is told twice.
+// Why the part of this number was lost; each reason is returned once.
 fn take_reason<F: Drop>(made: &mut Made<F>, number: usize) -> Option<io::Error> {
     match made.lost.get_mut(number) {
         Some(reason) => mem::replace(reason, None),

@@ -1,4 +1,4 @@
--- What the rows tell of a word.
+-- What the rows say of a word.
 use Rattle.fetcher.proofs.FaultLaws.{found}
 use Rattle.fetcher.proofs.fault_kind.FaultKind.of_word.Goals as goal
 
