@@ -1,3 +1,4 @@
 pub mod Accepting
 pub mod Ordering
 pub mod Compiling
+pub mod Tables

@@ -2,3 +2,4 @@
 pub mod Order
 pub mod Accepting
 pub mod Needles
+pub mod Tables

@@ -6,7 +6,8 @@ ghost use Rattle.regex_syntax.specs.Verdict.{Refuses};
 
 use crate::needles::may_have;
 use crate::order::in_order;
-use crate::search::{MOST_STATES, finds};
+use crate::search::MOST_STATES;
+use crate::table::{Table, searched, table_of};
 use regex_extract::Needles;
 use regex_hir::Hir;
 use regex_nfa::Nfa;
@@ -53,22 +54,24 @@ pub struct Expression {
     nfa: Nfa,
     order: Vec<u32>,
     needles: Option<Needles>,
+    table: Option<Table>,
 }
 
 // Contracts see an expression as its text.
 impl Model for Expression {
-    ghost use Rattle.std.specs.Prelude.{◌≤◌, List, ℕ, vec_len};
+    ghost use Rattle.std.specs.Prelude.{◌≤◌, List, ℕ, IfSome, vec_len};
     ghost use Rattle.std.specs.String.{string_bytes};
     ghost use Rattle.expressions.specs.inner.Accepting.{IsCompiled};
     ghost use Rattle.expressions.specs.inner.Needles.{NeedsSome};
     ghost use Rattle.expressions.specs.inner.Order.{IsOrder};
+    ghost use Rattle.expressions.specs.inner.Tables.{IsTable};
     ghost use Rattle.expressions.specs.declared.search.TheConstants.{MOST_STATES};
 
     ghost Value = { List ℕ };
 
     ghost view = { λ e. string_bytes e.text };
 
-    ghost invariant = { λ e. IsCompiled (string_bytes e.text) e.nfa × IsOrder e.nfa e.order.items × (vec_len e.nfa.states ≤ MOST_STATES) × NeedsSome e.nfa e.needles };
+    ghost invariant = { λ e. IsCompiled (string_bytes e.text) e.nfa × IsOrder e.nfa e.order.items × (vec_len e.nfa.states ≤ MOST_STATES) × NeedsSome e.nfa e.needles × IfSome e.table (IsTable e.nfa) };
 }
 
 ghost use Rattle.regex_compile.specs.Implements.{Implements};
@@ -144,9 +147,11 @@ impl Expression {
         if nfa.states.len() > MOST_STATES {
             return Err(ExpressionFault::Large);
         }
+        let order = in_order(alloc, &nfa)?;
         Ok(Expression {
             text: String::from_str(alloc, text)?,
-            order: in_order(alloc, &nfa)?,
+            table: table_of(alloc, &nfa, &order)?,
+            order,
             nfa,
             needles,
         })
@@ -161,7 +166,7 @@ impl Expression {
         if !may_have(&self.needles, text) {
             return false;
         }
-        finds(&self.nfa, &self.order, text)
+        searched(&self.table, &self.nfa, &self.order, text)
     }
 
     /// The expression as it was read. Takes no memory.

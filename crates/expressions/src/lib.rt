@@ -6,6 +6,7 @@ mod expression;
 mod needles;
 mod order;
 mod search;
+mod table;
 
 pub use crate::expression::{Expression, ExpressionFault};
 pub use crate::search::MOST_STATES;

@@ -1,8 +1,8 @@
 //! How an automaton is run over a text from its end on, with no memory but a flag for each state.
-ghost use Rattle.std.specs.Prelude.{◌≡◌, ◌+◌, ◌<◌, ◌≤◌, false, length, vec_len, slice_index};
+ghost use Rattle.std.specs.Prelude.{◌≡◌, ◌+◌, ◌<◌, ◌≤◌, ℕ, List, false, length, vec_len, slice_get, slice_index};
 ghost use Rattle.regex_nfa.specs.States.{IsReadable};
 ghost use Rattle.expressions.specs.inner.Order.{IsOrder};
-ghost use Rattle.expressions.specs.inner.Accepting.{accepts, reads, AreFlags, AreFlagsBelow, begins_from};
+ghost use Rattle.expressions.specs.inner.Accepting.{accepts, reads, AreFlags, AreFlagsBelow, AreMarks, AreNextFlags, IsAlike, begins_from};
 
 use regex_nfa::{Nfa, State, StateId, holds};
 
@@ -12,9 +12,9 @@ pub const MOST_STATES: usize = 1024;
 // Whether a state that reads a byte leads to a match from this place, by the flags of the next one.
 fn reads(nfa: &Nfa, state: State, text: &[u8], at: usize, next: &[bool]) -> bool
     requires readable { IsReadable nfa.now.transitions.items (vec_len nfa.now.states) state }
-    requires flags { at < length text.now → AreFlags nfa.now text.now (at + 1) next.now }
     requires room { vec_len nfa.now.states ≤ length next.now }
-    ensures { result ≡ reads nfa.now text.now at state }
+    ensures { (other : List ℕ) (place : ℕ) → slice_get text.now at ≡ slice_get other place → AreNextFlags nfa.now other place next.now →
+        result ≡ reads nfa.now other place state }
 {
     if at >= text.len() {
         return false;
@@ -28,11 +28,10 @@ fn reads(nfa: &Nfa, state: State, text: &[u8], at: usize, next: &[bool]) -> bool
 // Whether the state leads to a match from this place, by the flags of the next one, and here by those of the states of lower ranks.
 fn leads(nfa: &Nfa, state: StateId, text: &[u8], at: usize, next: &[bool], here: &[bool]) -> bool
     requires state { state < vec_len nfa.now.states }
-    requires flags { at < length text.now → AreFlags nfa.now text.now (at + 1) next.now }
-    requires below { AreFlagsBelow nfa.now text.now at here.now (slice_index nfa.now.ranks.items state) }
     requires room { vec_len nfa.now.states ≤ length next.now }
     requires room_here { vec_len nfa.now.states ≤ length here.now }
-    ensures { result ≡ accepts nfa.now text.now at state }
+    ensures { (other : List ℕ) (place : ℕ) → IsAlike nfa.now text.now at other place → AreNextFlags nfa.now other place next.now →
+        AreFlagsBelow nfa.now other place here.now (slice_index nfa.now.ranks.items state) → result ≡ accepts nfa.now other place state }
 {
     match nfa.state(state) {
         State::ByteRange(range) => reads(nfa, State::ByteRange(range), text, at, next),
@@ -45,13 +44,19 @@ fn leads(nfa: &Nfa, state: StateId, text: &[u8], at: usize, next: &[bool], here:
     }
 }
 
-// The flags of the states at this place, by those of the next one.
-fn mark(nfa: &Nfa, order: &[u32], text: &[u8], at: usize, next: &[bool], here: &mut [bool])
+/// The flags of the states at this place, by those of the next one.
+pub(crate) fn mark(
+    nfa: &Nfa,
+    order: &[u32],
+    text: &[u8],
+    at: usize,
+    next: &[bool],
+    here: &mut [bool],
+)
     requires order { IsOrder nfa.now order.now }
-    requires flags { at < length text.now → AreFlags nfa.now text.now (at + 1) next.now }
     requires room { vec_len nfa.now.states ≤ length next.now }
     requires room_here { vec_len nfa.now.states ≤ length here.old }
-    ensures flags { AreFlags nfa.now text.now at here.new }
+    ensures flags { AreMarks nfa.now text.now at next.now here.new }
     ensures room { length here.new ≡ length here.old }
 {
     for state in order {
@@ -59,8 +64,8 @@ fn mark(nfa: &Nfa, order: &[u32], text: &[u8], at: usize, next: &[bool], here: &
     }
 }
 
-// Whether a match begins at this place, after which none does, by its flags.
-fn begins(nfa: &Nfa, text: &[u8], at: usize, here: &[bool]) -> bool
+/// Whether a match begins at this place, after which none does, by its flags.
+pub(crate) fn begins(nfa: &Nfa, text: &[u8], at: usize, here: &[bool]) -> bool
     requires place { at ≤ length text.now }
     requires flags { AreFlags nfa.now text.now at here.now }
     requires room { vec_len nfa.now.states ≤ length here.now }

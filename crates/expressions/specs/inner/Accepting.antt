@@ -3,12 +3,13 @@ use Rattle.std.specs.Prelude.{◌≡◌, ℕ, ◌+◌, ◌<◌, Bool, true, fals
 use Rattle.regex_hir.specs.Re.{Re, accept, attempt}
 use Rattle.regex_hir.specs.Find.{first_between}
 use Rattle.regex_hir.specs.Looks.{holds}
+use Rattle.regex_hir.specs.declared.look.Look.{Look as Assertion}
 use Rattle.regex_hir.specs.Text.{is_some_and}
 use Rattle.regex_nfa.specs.declared.nfa.Nfa.{Nfa}
 use Rattle.regex_nfa.specs.declared.state.State.{State}
 use Rattle.regex_nfa.specs.declared.state.State.TheVariants.{ByteRange, Sparse, Split, Save, Look, Match, Fail}
 use Rattle.regex_nfa.specs.States.{next_on}
-use Rattle.regex_nfa.specs.Run.{run}
+use Rattle.regex_nfa.specs.Run.{run, state_of}
 use Rattle.expressions.specs.Expressions.{expression_of}
 
 -- from that place of the text the state leads to a match
@@ -37,6 +38,19 @@ AreFlags nfa text at flags = (q : ℕ) → q < vec_len nfa.states → slice_inde
 abbrev pub AreFlagsBelow : Nfa → List ℕ → ℕ → List Bool → ℕ → Type 0
 AreFlagsBelow nfa text at flags rank =
     (q : ℕ) → q < vec_len nfa.states → slice_index nfa.ranks.items q < rank → slice_index_or flags q false ≡ accepts nfa text at q
+
+-- The two places look alike to the automaton: the same byte is read at both, and each look of a state holds at both or at neither.
+pub record IsAlike (nfa : Nfa) (text : List ℕ) (at : ℕ) (other : List ℕ) (place : ℕ) : Type 0 where
+  pub byte : slice_get text at ≡ slice_get other place
+  pub looks : (q next : ℕ) (l : Assertion) → q < vec_len nfa.states → state_of nfa q ≡ Look l next → holds l text at ≡ holds l other place
+
+-- if a byte is read at that place, these are the flags of the next one
+abbrev pub AreNextFlags : Nfa → List ℕ → ℕ → List Bool → Type 0
+AreNextFlags nfa text at next = at < length text → AreFlags nfa text (at + 1) next
+
+-- these are the flags of each place that looks like that one, if those are the flags of the next
+abbrev pub AreMarks : Nfa → List ℕ → ℕ → List Bool → List Bool → Type 0
+AreMarks nfa text at next here = (other : List ℕ) (place : ℕ) → IsAlike nfa text at other place → AreNextFlags nfa other place next → AreFlags nfa other place here
 
 -- a match begins at that place or after it
 unfoldable pub begins_from : Nfa → List ℕ → ℕ → Bool

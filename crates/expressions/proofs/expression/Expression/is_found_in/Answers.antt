@@ -25,7 +25,7 @@ returns-clause-value c =
     let nfa = c.self.inside.nfa in
     let text = c.args.text.now in
     let bytes = All-from_get_or (λ x. x < 256) text 0 (λ i within. omega (arith, c.type_inv.text i)) in
-    c.finds.ensures ∙ ap (λ t. begins_from nfa t 0) c.as_bytes-text.ensures.value
+    c.searched.ensures ∙ ap (λ t. begins_from nfa t 0) c.as_bytes-text.ensures.value
     ∙ found_is c.args.self.now text nfa (subst (λ e. IsCompiled e nfa) c.self.view_is c.self.invariant.0) bytes
 
 pub returns-clause-means : goal.returns-clause-means
