@@ -42,6 +42,14 @@ pub struct Refused {
     pub fault: AnswerFault,
 }
 
+/// A page's answer that the frontier didn't take.
+pub struct Unanswered {
+    /// The permit, still to be answered or given up.
+    pub permit: Permit,
+    /// Why it wasn't taken.
+    pub fault: AnswerFault,
+}
+
 /// A frontier that many workers share.
 #[derive(Drop)]
 pub struct FrontierLock<'a> {
@@ -177,6 +185,38 @@ fn exchange_and_tell(core: &mut Frontier, worker: u32, done: Done) -> (Result<Wo
     (answer, was_busy && !core.is_busy())
 }
 
+// Has the edges of a page's outcome share the texts of held addresses, and exchanges a copy of it, like `exchange_and_tell`.
+// The copy comes after that, since a list with one owner alone can be written to.
+fn answer_and_tell(
+    core: &mut Frontier,
+    worker: u32,
+    permit: Permit,
+    outcome: &mut Outcome,
+) -> (Result<Work, Unanswered>, bool)
+    ensures outcome { outcome.new ≡ outcome.old }
+    ensures work { IfOk result.0 (IsFor worker) }
+    ensures steps { IfOk result.0 (λ work. Exchanges core.old (Done.Page permit outcome.old) worker work core.new) }
+    ensures same { OnErr result.0 (core.new ≡ core.old) }
+    ensures back { IfErr result.0 (λ unanswered. unanswered.permit ≡ permit) }
+
+    ensures woken { IsSleptAt core.old → result.1 ≡ false → IsSleptAt core.new }
+    ensures exact { IsTrue result.1 ↔ (IsSleptAt core.old × ¬ IsSleptAt core.new) }
+{
+    core.share_texts(outcome);
+    let Ok(copy) = outcome.try_clone() else {
+        let fault = AnswerFault::Memory;
+        return (Err(Unanswered { permit, fault }), false);
+    };
+    let (answer, wakes) = exchange_and_tell(core, worker, Done::Page(permit, copy));
+    match answer {
+        Ok(work) => (Ok(work), wakes),
+        Err(Refused { done, fault }) => match done {
+            Done::Page(permit, _copy) => (Err(Unanswered { permit, fault }), wakes),
+            Done::Rules(_permit, _rules) => unreachable!(),
+        },
+    }
+}
+
 // Whether the step that the frontier made, when it had so many lines, is one that can end a wait.
 fn can_end_waits(core: &Frontier, lines: usize) -> bool
     ensures { (old : Traced) (action : Action) → length old.trace ≡ lines → Makes old action core.now → result ≡ ends_waits action }
@@ -255,18 +295,6 @@ impl<'a> FrontierLock<'a> {
         self.step(rt, |core, ()| offer(core), ())
     }
 
-    /// Has the edges of an outcome share the texts of the addresses that are held, like `Frontier::share_texts`.
-    /// Takes no lock if none can.
-    pub fn share_texts<R: Wait>(&self, rt: &R, outcome: &mut Outcome)
-        ensures { outcome.new ≡ outcome.old }
-    {
-        if !outcome.can_share_texts() {
-            return;
-        }
-        let core = self.core.lock(rt);
-        core.share_texts(outcome);
-    }
-
     /// Hands an answer over, like `Frontier::answer` and `Frontier::robots_answer`. If it isn't taken, that is, if the
     /// permit is stray, the permit and the answer are handed back.
     pub fn give<R: Wait>(&self, rt: &R, done: Done) -> Result<(), Refused>
@@ -287,6 +315,32 @@ impl<'a> FrontierLock<'a> {
         let (answer, wakes) = {
             let mut core = self.core.lock(rt);
             let told = exchange_and_tell(&mut core, worker, done);
+            self.note_waiting(&core);
+            told
+        };
+        if wakes {
+            self.moved.notify_all();
+        }
+        answer
+    }
+
+    /// Hands a copy of a page's outcome over, like [`FrontierLock::give_and_take`], all under one lock. Before that the edges
+    /// share the texts of the addresses that are held, like `Frontier::share_texts`; the outcome stays equal. If the permit is
+    /// stray, or there are 2^63 copies, nothing else happens.
+    pub fn answer_and_take<R: Wait>(
+        &self,
+        rt: &R,
+        worker: u32,
+        permit: Permit,
+        outcome: &mut Outcome,
+    ) -> Result<Work, Unanswered>
+        ensures outcome { outcome.new ≡ outcome.old }
+        ensures work { IfOk result (IsFor worker) }
+        ensures back { IfErr result (λ unanswered. unanswered.permit ≡ permit) }
+    {
+        let (answer, wakes) = {
+            let mut core = self.core.lock(rt);
+            let told = answer_and_tell(&mut core, worker, permit, outcome);
             self.note_waiting(&core);
             told
         };

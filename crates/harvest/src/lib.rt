@@ -7,10 +7,12 @@
 pub use crate::entry::Entry;
 pub use crate::harvest::Harvest;
 pub use crate::named::Named;
+pub use crate::near_order::order_nearly;
 pub use crate::page::{KeptPage, is_success};
 
 mod entry;
 mod gathering;
 mod harvest;
 mod named;
+mod near_order;
 mod page;

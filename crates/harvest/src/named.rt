@@ -3,6 +3,7 @@ ghost use Rattle.std.specs.Prelude.{◌≡◌, List, ℕ, map, OnOk, IsPermutati
 ghost use Rattle.frontier_core.specs.Tables.{IsOnce};
 ghost use Rattle.address.specs.AddressOrder.{IsAscending};
 
+use crate::near_order::order_nearly;
 use crate::page::KeptPage;
 use address::{Address, Origin};
 use fetcher::Outcome;
@@ -58,7 +59,7 @@ pub fn sort_by_name<T: Named>(things: &mut Vec<T>) -> Result<(), AllocError>
     ensures permutation { IsPermutation things.old.items things.new.items }
     ensures ascending { OnOk result (IsAscending (map T.text_of things.new.items)) }
 {
-    // The sort that keeps runs: things come in order of discovery, and links of a site mostly ascend,
-    // so that few names are compared.
+    order_nearly(things);
+    // The sort that keeps runs, so that few names are compared.
     things.sort_by(|thing, other| thing.name().cmp(other.name()))
 }
