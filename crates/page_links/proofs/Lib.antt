@@ -1,3 +1,4 @@
 pub mod Cutting
 pub mod Placing
 pub mod Closing
+pub mod Differing

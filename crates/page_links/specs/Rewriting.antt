@@ -7,7 +7,7 @@ use Rattle.refresh_links.specs.Rewriting as refresh
 use Rattle.html_links.specs.Pieces.{Attribute, Source}
 use Rattle.html_links.specs.Escaping.{escaped}
 use Rattle.html_links.specs.Values.{value_text_of, written}
-use Rattle.html_links.specs.Links.{Link, Links}
+use Rattle.html_links.specs.Links.{Link, Links, links_of_body}
 use Rattle.html_links.specs.Awaiting.{form_in}
 use Rattle.html_links.specs.Scanning.{ScanProgress, StandsFor}
 use Rattle.html_links.specs.declared.context.Syntax.{Syntax}
@@ -144,6 +144,12 @@ AreAnew changes syntax page (one ∷ earlier) last = AreAnew changes syntax page
 pub record IsAnew (changes : Changes) (syntax : Syntax) (page other : List ℕ) : Type 0 where
   pub between : List (List ℕ)
   pub one_by_one : AreAnew changes syntax page between other
+
+-- A page that is this one but for values and style sheets, of which the links aren't this one's, each changed.
+pub record ReadsOtherwise (changes : Changes) (known : ValueForm → List ℕ → List ℕ → Type 0) (syntax : Syntax) (page : List ℕ) : Type 0 where
+  pub written : List ℕ
+  pub anew : IsAnew changes syntax page written
+  pub differs : AreChanged changes known (links_of_body syntax page) (links_of_body syntax written) → ⊥
 
 -- ---- how far a writer has come
 

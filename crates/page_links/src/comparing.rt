@@ -1,5 +1,5 @@
 //! Links that are those of another page, changed.
-ghost use Rattle.std.specs.Prelude.{◌≡◌, ◌⊎◌, true, IfOk, option_map, string_bytes};
+ghost use Rattle.std.specs.Prelude.{◌≡◌, ◌⊎◌, true, false, IfOk, option_map, string_bytes};
 ghost use Rattle.css_links.specs.Rewriting.{changed};
 ghost use Rattle.html_links.specs.Scanning.{scanned};
 ghost use Rattle.html_links.specs.declared.awaiting.ValueForm.TheVariants.{Base};
@@ -19,6 +19,7 @@ pub(crate) fn is_changed<P: PageChange>(
 ) -> Result<bool, AllocError>
     ensures text { IfOk result (λ is. is ≡ true → new.now ≡ changed (P.becomes changes.now form) old.now) }
     ensures known { IfOk result (λ is. is ≡ true → P.known changes.now form old.now new.now) }
+    ensures differs { IfOk result (λ is. is ≡ false → new.now ≡ changed (P.becomes changes.now form) old.now → ⊥) }
 {
     match changes.change(form, old)? {
         Some(other) => Ok(other.as_str() == new),
@@ -35,7 +36,8 @@ fn is_link_changed_in<P: PageChange>(
 ) -> Result<bool, AllocError>
     requires kind { new.now.kind ≡ old.now.kind }
     requires written { may_be_in old.now.kind form ≡ true }
-    ensures { IfOk result (λ is. is ≡ true → IsLinkChanged (P.becomes changes.now) (P.known changes.now) old.now new.now) }
+    ensures changed { IfOk result (λ is. is ≡ true → IsLinkChanged (P.becomes changes.now) (P.known changes.now) old.now new.now) }
+    ensures differs { IfOk result (λ is. is ≡ false → new.now.text ≡ changed (P.becomes changes.now form) old.now.text → ⊥) }
 {
     is_changed(changes, form, old.text.as_str(), new.text.as_str())
 }
@@ -48,7 +50,8 @@ fn is_outer_changed<P: PageChange>(
 ) -> Result<bool, AllocError>
     requires kind { new.now.kind ≡ old.now.kind }
     requires link { old.now.kind ≡ LinkKind.Link }
-    ensures { IfOk result (λ is. is ≡ true → IsLinkChanged (P.becomes changes.now) (P.known changes.now) old.now new.now) }
+    ensures changed { IfOk result (λ is. is ≡ true → IsLinkChanged (P.becomes changes.now) (P.known changes.now) old.now new.now) }
+    ensures differs { IfOk result (λ is. is ≡ false → IsLinkChanged (P.becomes changes.now) (P.known changes.now) old.now new.now → ⊥) }
 {
     if is_link_changed_in(changes, ValueForm::Address, old, new)? {
         return Ok(true);
@@ -60,7 +63,8 @@ fn is_outer_changed<P: PageChange>(
 fn is_part_changed<P: PageChange>(changes: &P, old: &Found, new: &Found) -> Result<bool, AllocError>
     requires kind { new.now.kind ≡ old.now.kind }
     requires part { old.now.kind ≡ LinkKind.Inline }
-    ensures { IfOk result (λ is. is ≡ true → IsLinkChanged (P.becomes changes.now) (P.known changes.now) old.now new.now) }
+    ensures changed { IfOk result (λ is. is ≡ true → IsLinkChanged (P.becomes changes.now) (P.known changes.now) old.now new.now) }
+    ensures differs { IfOk result (λ is. is ≡ false → IsLinkChanged (P.becomes changes.now) (P.known changes.now) old.now new.now → ⊥) }
 {
     if is_link_changed_in(changes, ValueForm::Address, old, new)? {
         return Ok(true);
@@ -74,14 +78,16 @@ fn is_part_changed<P: PageChange>(changes: &P, old: &Found, new: &Found) -> Resu
 /// Whether a link is the other one, of which the text isn't clear.
 fn is_link_left(old: &Found, new: &Found) -> bool
     requires { new.now.kind ≡ old.now.kind }
-    ensures { result ≡ true → IsLinkLeft old.now new.now }
+    ensures left { result ≡ true → IsLinkLeft old.now new.now }
+    ensures differs { result ≡ false → IsLinkLeft old.now new.now → ⊥ }
 {
     new.text.as_str() == old.text.as_str() && is_unclear(old.text.as_bytes())
 }
 
 /// Whether a link is the other one, changed, or left for its text.
 fn is_link_changed<P: PageChange>(changes: &P, old: &Found, new: &Found) -> Result<bool, AllocError>
-    ensures { IfOk result (λ is. is ≡ true → IsLinkChanged (P.becomes changes.now) (P.known changes.now) old.now new.now ⊎ IsLinkLeft old.now new.now) }
+    ensures changed { IfOk result (λ is. is ≡ true → IsLinkChanged (P.becomes changes.now) (P.known changes.now) old.now new.now ⊎ IsLinkLeft old.now new.now) }
+    ensures differs { IfOk result (λ is. is ≡ false → IsLinkChanged (P.becomes changes.now) (P.known changes.now) old.now new.now ⊎ IsLinkLeft old.now new.now → ⊥) }
 {
     if old.kind != new.kind {
         return Ok(false);
@@ -101,7 +107,8 @@ fn are_links_changed<P: PageChange>(
     old: &[Found],
     new: &[Found],
 ) -> Result<bool, AllocError>
-    ensures { IfOk result (λ are. are ≡ true → AreLinksChanged (P.becomes changes.now) (P.known changes.now) old.now new.now) }
+    ensures changed { IfOk result (λ are. are ≡ true → AreLinksChanged (P.becomes changes.now) (P.known changes.now) old.now new.now) }
+    ensures differ { IfOk result (λ are. are ≡ false → AreLinksChanged (P.becomes changes.now) (P.known changes.now) old.now new.now → ⊥) }
 {
     let mut left = old;
     let mut others = new;
@@ -118,13 +125,38 @@ fn are_links_changed<P: PageChange>(
     Ok(others.is_empty())
 }
 
+/// Whether a link that is the value of an attribute stays, or would stay if it were.
+fn does_link_stay<P: PageChange>(changes: &P, link: &Found) -> Result<bool, AllocError>
+    ensures { IfOk result (λ does. does ≡ true → IsLinkChanged (P.becomes changes.now) (P.known changes.now) link.now link.now) }
+{
+    match link.kind {
+        LinkKind::Link => is_link_changed_in(changes, ValueForm::Address, link, link),
+        LinkKind::Inline => is_link_changed_in(changes, ValueForm::Address, link, link),
+    }
+}
+
+/// Whether all of these links stay so.
+fn do_links_stay<P: PageChange>(changes: &P, links: &[Found]) -> Result<bool, AllocError>
+    ensures { IfOk result (λ all. all ≡ true → AreLinksChanged (P.becomes changes.now) (P.known changes.now) links.now links.now) }
+{
+    let mut left = links;
+    while let [link, behind @ ..] = left {
+        if !does_link_stay(changes, link)? {
+            return Ok(false);
+        }
+        left = behind;
+    }
+    Ok(true)
+}
+
 /// Whether a base is the other one, changed.
 fn is_base_changed<P: PageChange>(
     changes: &P,
     old: &Option<String>,
     new: &Option<String>,
 ) -> Result<bool, AllocError>
-    ensures { IfOk result (λ is. is ≡ true → option_map string_bytes new.now ≡ option_map (changed (P.becomes changes.now Base)) (option_map string_bytes old.now)) }
+    ensures changed { IfOk result (λ is. is ≡ true → option_map string_bytes new.now ≡ option_map (changed (P.becomes changes.now Base)) (option_map string_bytes old.now)) }
+    ensures differs { IfOk result (λ is. is ≡ false → option_map string_bytes new.now ≡ option_map (changed (P.becomes changes.now Base)) (option_map string_bytes old.now) → ⊥) }
 {
     match old {
         Some(base) => match new {
@@ -141,10 +173,22 @@ pub(crate) fn are_changed<P: PageChange>(
     old: &Scan,
     new: &Scan,
 ) -> Result<bool, AllocError>
-    ensures { IfOk result (λ are. are ≡ true → AreChanged (P.becomes changes.now) (P.known changes.now) (scanned old.now) (scanned new.now)) }
+    ensures changed { IfOk result (λ are. are ≡ true → AreChanged (P.becomes changes.now) (P.known changes.now) (scanned old.now) (scanned new.now)) }
+    ensures differ { IfOk result (λ are. are ≡ false → AreChanged (P.becomes changes.now) (P.known changes.now) (scanned old.now) (scanned new.now) → ⊥) }
 {
     if old.nofollow != new.nofollow || !is_base_changed(changes, &old.base, &new.base)? {
         return Ok(false);
     }
     are_links_changed(changes, &old.links, &new.links)
+}
+
+/// Whether a page stays as it is: its links and its base become what they are, each link as the value of an attribute. `found` is what was
+/// found in the page. The error is out of memory.
+pub fn stays<P: PageChange>(changes: &P, found: &Scan) -> Result<bool, AllocError>
+    ensures { IfOk result (λ stays. stays ≡ true → AreChanged (P.becomes changes.now) (P.known changes.now) (scanned found.now) (scanned found.now)) }
+{
+    if !is_base_changed(changes, &found.base, &found.base)? {
+        return Ok(false);
+    }
+    do_links_stay(changes, &found.links)
 }

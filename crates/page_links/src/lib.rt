@@ -20,6 +20,7 @@ mod unclear;
 mod value;
 mod writer;
 
+pub use crate::comparing::stays;
 pub use crate::page_change::PageChange;
 pub use crate::rewriter::{rewrite, scan};
 pub use crate::sheet_rewriter::rewrite_sheet;

@@ -2,7 +2,7 @@
 ghost use Rattle.std.specs.Prelude.{◌≡◌, IfOk, MatchOption};
 ghost use Rattle.html_links.specs.Links.{links_of_body};
 ghost use Rattle.html_links.specs.Scanning.{scanned};
-ghost use Rattle.page_links.specs.Rewriting.{IsAnew, AreChanged};
+ghost use Rattle.page_links.specs.Rewriting.{IsAnew, AreChanged, ReadsOtherwise};
 
 use crate::comparing::are_changed;
 use crate::page_change::PageChange;
@@ -36,6 +36,7 @@ pub fn rewrite<P: PageChange>(
     found: &Scan,
 ) -> Result<Option<Vec<u8>>, Memory>
     requires { scanned found.now ≡ links_of_body syntax page.now }
+    ensures refused { IfOk result (λ other. MatchOption other (ReadsOtherwise (P.becomes changes.now) (P.known changes.now) syntax page.now) (λ other. Unit {0})) }
     ensures kept { IfOk result (λ other. MatchOption other (Unit {0}) (λ other. IsAnew (P.becomes changes.now) syntax page.now other.items)) }
     ensures links { IfOk result (λ other. MatchOption other (Unit {0}) (λ other. AreChanged (P.becomes changes.now) (P.known changes.now) (links_of_body syntax page.now) (links_of_body syntax other.items))) }
 {

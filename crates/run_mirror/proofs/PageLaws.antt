@@ -7,7 +7,7 @@ use Rattle.std.specs.List.{slice_split}
 use Rattle.address.specs.Address.{AddressText}
 use Rattle.css_links.specs.References.{references}
 use Rattle.css_links.specs.Rewriting as sheets
-use Rattle.html_links.specs.Links.{links_of_body}
+use Rattle.html_links.specs.Links.{Links, links_of_body}
 use Rattle.html_links.specs.declared.context.Syntax.{Syntax}
 use Rattle.html_links.specs.declared.awaiting.ValueForm.{ValueForm}
 use Rattle.html_links.specs.declared.awaiting.ValueForm.TheVariants as value
@@ -23,6 +23,7 @@ use Rattle.kept_bodies.specs.declared.body_kind.BodyKind.TheVariants as kinds
 use Rattle.page_links.specs.Rewriting.{IsAnew, AreChanged, AreReferencesChanged}
 use Rattle.run_mirror.specs.Mirrors.{Kept, name_among, name_in, target_in, outcome_among}
 use Rattle.run_mirror.specs.Anew.{KeptPage, form_of, page_in, becomes_in, Leads, LeadsAlike, IsPageAnew, IsSheetAnew, page_at, sheet_at, IsAnewAs, kind_if, is_read, IsAnswer, given}
+use Rattle.run_mirror.specs.inner.Answers.{IsAnswerAs}
 use Rattle.run_mirror.specs.declared.anew.Anew.{Anew}
 use Rattle.run_mirror.specs.declared.anew.Anew.TheVariants.{Same, Changed, Left}
 
@@ -103,12 +104,27 @@ pub sheet_given : {A : Type 0} (items : A → List ℕ) (run : Kept) (at : Addre
 sheet_given items run at file body p None e kept links = tt
 sheet_given items run at file body p (Some x) e kept links = subst (λ (q : KeptPage). IsSheetAnew q body (items x)) e (record { kept = kept; links = links })
 
+-- a page that stays is itself anew
+pub page_same : (run : Kept) (at : AddressText) (file body : List ℕ) (syntax : Syntax) (p : KeptPage) (found : Links) → p ≡ page_at run at file syntax body → found ≡ links_of_body syntax body
+    → AreChanged (becomes_in p) (Leads p) found found → IsAnewAs kinds.Html run at file body body
+page_same run at file body syntax p found e is links = (
+  syntax,
+  subst (λ (q : KeptPage). IsPageAnew q syntax body body) e
+      (record { kept = record { between = []; one_by_one = refl }; links = subst (λ (l : Links). AreChanged (becomes_in p) (Leads p) l l) is links }),
+)
+
 -- what is given for a body is an answer
-pub answered : {A : Type 0} (items : A → List ℕ) (run : Kept) (at : AddressText) (kind k : BodyKind) (file body : List ℕ) (anew : Anew) (o : Option A)
-    → k ≡ kind_if (is_read (outcome_among run.records at)) kind → given body anew ≡ option_map items o
-    → MatchOption o (Unit {0}) (λ x. IsAnewAs k run at file body (items x)) → IsAnswer run at kind file body anew
-answered items run at kind k file body Same None e g h = absurd (cc)
-answered items run at kind k file body Same (Some x) e g h = subst (λ (j : BodyKind). IsAnewAs j run at file body body) e (subst (λ (b : List ℕ). IsAnewAs k run at file body b) (sym (some_is body (items x) g)) h)
-answered items run at kind k file body (Changed other) None e g h = absurd (cc)
-answered items run at kind k file body (Changed other) (Some x) e g h = subst (λ (j : BodyKind). IsAnewAs j run at file body other.items) e (subst (λ (b : List ℕ). IsAnewAs k run at file body b) (sym (some_is other.items (items x) g)) h)
-answered items run at kind k file body Left o e g h = tt
+pub answer_as : {A : Type 0} (items : A → List ℕ) (k : BodyKind) (run : Kept) (at : AddressText) (file body : List ℕ) (anew : Anew) (o : Option A)
+    → given body anew ≡ option_map items o → MatchOption o (Unit {0}) (λ x. IsAnewAs k run at file body (items x)) → IsAnswerAs k run at file body anew
+answer_as items k run at file body Same None g h = absurd (cc)
+answer_as items k run at file body Same (Some x) g h = subst (λ (b : List ℕ). IsAnewAs k run at file body b) (sym (some_is body (items x) g)) h
+answer_as items k run at file body (Changed other) None g h = absurd (cc)
+answer_as items k run at file body (Changed other) (Some x) g h = subst (λ (b : List ℕ). IsAnewAs k run at file body b) (sym (some_is other.items (items x) g)) h
+answer_as items k run at file body Left o g h = tt
+
+-- so is what is said of it by the kind that it is read as
+pub answered : (run : Kept) (at : AddressText) (kind k : BodyKind) (file body : List ℕ) (anew : Anew) → k ≡ kind_if (is_read (outcome_among run.records at)) kind
+    → IsAnswerAs k run at file body anew → IsAnswer run at kind file body anew
+answered run at kind k file body Same e h = subst (λ (j : BodyKind). IsAnewAs j run at file body body) e h
+answered run at kind k file body (Changed other) e h = subst (λ (j : BodyKind). IsAnewAs j run at file body other.items) e h
+answered run at kind k file body Left e h = tt

@@ -1,2 +1,3 @@
 -- Definitions that proofs alone need: no public clause cites them.
 pub mod Readings
+pub mod Answers

@@ -1,8 +1,9 @@
 //! Bodies anew.
-ghost use Rattle.std.specs.Prelude.{◌≡◌, [], IfOk, MatchOption, option_map, slice_index_or, string_bytes, vec_items};
+ghost use Rattle.std.specs.Prelude.{◌≡◌, [], IfOk, option_map, slice_index_or, string_bytes, vec_items};
 ghost use Rattle.kept_bodies.specs.declared.body_kind.BodyKind.TheVariants as kinds;
 ghost use Rattle.run_mirror.specs.Mirrors.{outcome_among};
-ghost use Rattle.run_mirror.specs.Anew.{base_at, given, is_read, kind_if, IsAnewAs, IsAnswer};
+ghost use Rattle.run_mirror.specs.Anew.{base_at, given, is_read, kind_if, IsAnswer};
+ghost use Rattle.run_mirror.specs.inner.Answers.{IsAnswerAs};
 
 use crate::kept_page::KeptPage;
 use crate::lookup::is_read;
@@ -11,7 +12,7 @@ use crate::run_mirror::RunMirror;
 use address::{Address, AddressFault};
 use fetcher::{Edge, Outcome};
 use kept_bodies::BodyKind;
-use page_links::{rewrite, rewrite_sheet};
+use page_links::{rewrite, rewrite_sheet, stays};
 use std::alloc::{AllocError, Global};
 
 /// What becomes of a kept body.
@@ -75,23 +76,27 @@ impl<'a> RunMirror<'a> {
         }
     }
 
+    /// What becomes of a page. Whether it stays is looked at first: many pages have only links that do, and that is cheaper than writing.
     fn page_anew(
         &self,
         alloc: Global,
         address: &Address,
         file: &str,
         body: &[u8],
-    ) -> Result<Option<Vec<u8>>, AllocError>
-        ensures { IfOk result (λ other. MatchOption other (Unit {0}) (λ other. IsAnewAs kinds.Html self.now address.now file.now body.now other.items)) }
+    ) -> Result<Anew, AllocError>
+        ensures { IfOk result (λ anew. IsAnswerAs kinds.Html self.now address.now file.now body.now anew) }
     {
         let known = reading_of(alloc, address, self.edges(address), body)?;
         let Some(reading) = known else {
-            return Ok(None);
+            return Ok(Anew::Left);
         };
         let base = base_of(address, &reading.found.base)?;
         let page = KeptPage::new(alloc, self, file, &base);
+        if stays(&page, &reading.found)? {
+            return Ok(Anew::Same);
+        }
         match rewrite(alloc, &page, reading.syntax, body, &reading.found) {
-            Ok(other) => Ok(other),
+            Ok(other) => Ok(answer(body, other)),
             Err(_) => Err(AllocError),
         }
     }
@@ -102,12 +107,12 @@ impl<'a> RunMirror<'a> {
         address: &Address,
         file: &str,
         body: &[u8],
-    ) -> Result<Option<Vec<u8>>, AllocError>
-        ensures { IfOk result (λ other. MatchOption other (Unit {0}) (λ other. IsAnewAs kinds.Sheet self.now address.now file.now body.now other.items)) }
+    ) -> Result<Anew, AllocError>
+        ensures { IfOk result (λ anew. IsAnswerAs kinds.Sheet self.now address.now file.now body.now anew) }
     {
         let sheet = KeptPage::new(alloc, self, file, address);
         match rewrite_sheet(alloc, &sheet, body) {
-            Ok(other) => Ok(other),
+            Ok(other) => Ok(answer(body, other)),
             Err(_) => Err(AllocError),
         }
     }
@@ -126,11 +131,11 @@ impl<'a> RunMirror<'a> {
         match self.kind_read(address, kind) {
             BodyKind::Html => {
                 let page = self.page_anew(alloc, address, file, body)?;
-                Ok(answer(body, page))
+                Ok(page)
             },
             BodyKind::Sheet => {
                 let sheet = self.sheet_anew(alloc, address, file, body)?;
-                Ok(answer(body, sheet))
+                Ok(sheet)
             },
             BodyKind::Other => Ok(Anew::Same),
         }
