@@ -24,7 +24,7 @@ impl Told {
     ghost use Rattle.std.specs.Prelude.{◌≡◌, IfOk};
 
     /// What it answers for the address that was asked. Of the links of a page those are edges that `links` takes.
-    /// The error is want of memory.
+    /// Fails only if memory runs out.
     pub fn answer(
         &self,
         alloc: Global,

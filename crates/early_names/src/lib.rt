@@ -1,5 +1,5 @@
 //! Names that pages get while a run goes on: the plain name of each page, by itself, as long as no name that was claimed before
-//! stands in its way. Which names pages have in the end is a matter of `local_names`. It opens no folder.
+//! is in its way. Which names pages have in the end is a matter of `local_names`. It opens no folder.
 #![tactic(auto)]
 
 pub use crate::claims::Claims;

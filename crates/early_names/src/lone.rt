@@ -13,7 +13,7 @@ const MAX_NAME: usize = 1_000;
 /// The most directories of such a name.
 const MAX_DIRECTORIES: usize = 32;
 
-/// The name that a page has if no other page stands in its way, by these rules; if names have endings, with the ending of a body of
+/// The name that a page has if no other page is in its way, by these rules; if names have endings, with the ending of a body of
 /// this kind.
 pub fn lone_name(
     alloc: Global,

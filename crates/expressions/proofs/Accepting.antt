@@ -1,4 +1,4 @@
--- A state leads to a match where one does to which it leads.
+-- A state leads to a match if one does to which it leads.
 use Rattle.std.proofs.Common.{◌≡◌, ℕ, zero, suc, ◌+◌, ◌<◌, ◌≤◌, Bool, true, false, cond, ◌||◌, ◌&&◌, List, length, slice_index, slice_index_or, slice_set, is_some, Option, Some, None, option_and_then, option_map, refl, sym, ap, ◌∙◌, subst, ⊎_elim, arith, get_or-set_same, get_or-set_other}
 use Rattle.std.proofs.lemmas.Bool.{cases_lt, cases_eq}
 use Rattle.std.specs.Option.{option_or}
@@ -121,7 +121,7 @@ or_false : (b : Bool) → (b || false) ≡ b
 or_false true = refl
 or_false false = refl
 
--- where none begins later, the flag of the first state tells
+-- if none begins later, the flag of the first state decides
 pub begins-here : (nfa : Nfa) (text : List ℕ) (at : ℕ) (flag : Bool) → at ≤ length text → flag ≡ accepts nfa text at nfa.start → false ≡ begins_from nfa text (at + 1) → flag ≡ begins_from nfa text at
 begins-here nfa text at flag inside is none =
     is ∙ sym (or_false _) ∙ ap (λ b. accepts nfa text at nfa.start || b) none ∙ sym (begins-step nfa text at inside)

@@ -47,7 +47,7 @@ IsNoSyntax (Bad at) = ⊥
 IsNoSyntax Large = ⊤
 IsNoSyntax Memory = ⊤
 
--- The fault comes only where it may: Bad where the text is no expression, at a place between its characters. How large an expression is, and how much memory there is,
+-- The fault comes only where it may: Bad if the text is no expression, at a place between its characters. How large an expression is, and how much memory there is,
 -- isn't said.
 abbrev pub IsFaultOf : List ℕ → ExpressionFault → Type 0
 IsFaultOf text (Bad at) = (expression_of text ≡ None) × IsCharBoundary text at

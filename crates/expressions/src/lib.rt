@@ -1,5 +1,5 @@
 //! Regular expressions that are looked for in a text without memory: the syntax and the meaning are those of the kit's `regex`, and what an
-//! expression costs is bounded when it is read. The meaning is in `specs/Expressions.antt`. Its tests stand in `tests/filters`.
+//! expression costs is bounded when it is read. The meaning is in `specs/Expressions.antt`. Its tests are in `tests/filters`.
 #![tactic(auto)]
 
 mod expression;

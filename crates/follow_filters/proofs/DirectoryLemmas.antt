@@ -120,7 +120,7 @@ pub first_name : (names : List (List ℕ)) (first : List ℕ) (short : List ℕ 
 first_name names first short None cut = ([], cut)
 first_name names first short (Some r) cut = (names_in r.now, cut.0)
 
--- a bad name, or memory that ran out, is told of the text
+-- a bad name, or memory that ran out, is reported for the text
 pub names_fault : (front : List (List Part)) (text rest first : List ℕ) (others : List (List ℕ)) (fault : ElementFault) → behind front (read_names rest) ≡ read_names text → names_in rest ≡ first ∷ others → IsFaultOf (parts_spelled first) fault → IsFaultOf (read_names text) fault
 names_fault front text rest first others fault so_far cut (inl (bad, none)) = inl (bad, sym so_far ∙ ap (behind front) (names-bad rest first others cut none))
 names_fault front text rest first others fault so_far cut (inr memory) = inr memory

@@ -49,7 +49,7 @@ meets_alike plan page other kind address hosts rule.Rejected = refl
 meets_alike plan page other kind address hosts rule.ExpressionMissing = refl
 meets_alike plan page other kind address hosts rule.ExpressionFound = refl
 
--- if hosts are spanned and requisites aren't, each edge may lead where another does
+-- if hosts are spanned and requisites aren't, each edge may lead to where another does
 pub meets_anywhere : (plan : Plan) (page other : List ℕ) (kind another : EdgeKind) (address : List ℕ) → plan.span_hosts ≡ true → plan.span_requisites ≡ false → (r : Rule) → meets r plan page kind address ≡ meets r plan other another address
 unfolding meets
 meets_anywhere plan page other kind another address spans alone rule.RobotsFile = refl
@@ -79,7 +79,7 @@ meets_any_kind plan page kind another address alone rule.Rejected = refl
 meets_any_kind plan page kind another address alone rule.ExpressionMissing = refl
 meets_any_kind plan page kind another address alone rule.ExpressionFound = refl
 
--- a link of a page on the start's host is followed just if its target passes
+-- a link of a page on the start's host is followed exactly if its target passes
 pub links_at_home : (plan : Plan) (page address : List ℕ) → host_of page ≡ host_of plan.start → follows_of plan page Link address ≡ passes_of plan address
 unfolding follows_of
 links_at_home plan page address home = list_all-same (λ r. meets r plan page Link address) (λ r. meets r plan plan.start Link address) (meets_alike plan page plan.start Link address home) rules
@@ -91,7 +91,7 @@ follows_at_home plan page kind address home alone =
     list_all-same (λ r. meets r plan page kind address) (λ r. meets r plan plan.start Link address)
     (λ r. meets_any_kind plan page kind Link address alone r ∙ meets_alike plan page plan.start Link address home r) rules
 
--- if hosts are spanned and requisites aren't, an edge is followed just if its target passes
+-- if hosts are spanned and requisites aren't, an edge is followed exactly if its target passes
 pub follows_anywhere : (plan : Plan) (page : List ℕ) (kind : EdgeKind) (address : List ℕ) → plan.span_hosts ≡ true → plan.span_requisites ≡ false → follows_of plan page kind address ≡ passes_of plan address
 unfolding follows_of
 follows_anywhere plan page kind address spans alone = list_all-same (λ r. meets r plan page kind address) (λ r. meets r plan plan.start Link address) (meets_anywhere plan page plan.start kind Link address spans alone) rules

@@ -41,7 +41,7 @@ split-whole mark (x ∷ xs) none =
     ∙ ap (onto_first x) (split-whole mark xs (omega arith)))
     (cases_Bool (mark x))
 
--- an element is read, or is empty, and the elements behind it
+-- an element is read, or is empty, and the elements after it
 pub elements_in-more : {X : Type 0} (read : List ℕ → Option X) (front : List X) (list first rest : List ℕ) (x : X) → slice_split is_comma list ≡ first ∷ slice_split is_comma rest → (length first == 0) ≡ false → read first ≡ Some x → behind (front ++ x ∷ []) (read_list read rest) ≡ behind front (read_list read list)
 unfolding read_list
 elements_in-more read front list first rest x cut full is =

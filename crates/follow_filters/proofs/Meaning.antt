@@ -97,13 +97,13 @@ unless_facts false y z p q r =
     let rest = unless_fact y z q r in
     (λ yes no none. rest.0 yes none, λ all. rest.1 (λ none. all (λ h. let yes = p.1 h in cc) none))
 
--- a fact where a flag is set and another fact holds
+-- a fact if a flag is set and another fact holds
 where_both : {P Q : Type 0} (x y z : Bool) → Decides y P → Decides z Q → Decides (not x || not y || z) (x ≡ true → P → Q)
 where_both true true z p q = (λ yes set h. q.0 yes, λ all. q.1 (all refl (p.0 refl)))
 where_both true false z p q = (λ yes set h. let no = p.1 h in cc, λ all. refl)
 where_both false y z p q = (λ yes set h. cc, λ all. refl)
 
--- a fact where a flag is set
+-- a fact if a flag is set
 where_set : {Q : Type 0} (x y : Bool) → Decides y Q → Decides (not x || y) (x ≡ true → Q)
 where_set true y q = (λ yes set. q.0 yes, λ all. q.1 (all refl))
 where_set false y q = (λ yes set. cc, λ all. refl)
@@ -151,7 +151,7 @@ meets-Decides rule.ExpressionFound plan page kind address = Decides-not _ (any-D
 passed : {X : Type 0} (p : X → Bool) (xs : List X) (i : ℕ) (d : X) → i < length xs → list_all p xs ≡ true → p (get_or xs i d) ≡ true
 passed p xs i d below all = ⊎_elim (λ yes. yes) (λ no. let some = list_all_at p xs i d below no in cc) (cases_Bool (p (get_or xs i d)))
 
--- where a rule stands among the rules
+-- the place of a rule among the rules
 place : Rule → ℕ
 place rule.RobotsFile = 0
 place rule.Host = 1
@@ -185,7 +185,7 @@ all_met : (plan : Plan) (page : List ℕ) (kind : EdgeKind) (address : List ℕ)
 all_met plan page kind address [] each = refl
 all_met plan page kind address (r ∷ rs) each = and_from _ _ (each r) (all_met plan page kind address rs each)
 
--- the test `follows_of` holds of a page and a text just where they meet each of the rules, for every plan: a law for definitions
+-- the test `follows_of` holds of a page and a text exactly if they meet each of the rules, for every plan: a law for definitions
 -- of other crates that take a test
 pub follows_of-is : (plan : Plan) (page : List ℕ) (kind : EdgeKind) (address : List ℕ) → IsTrue (follows_of plan page kind address) ↔ Follows plan page kind address
 unfolding follows_of
@@ -201,7 +201,7 @@ passes_of-is plan address = follows_of-is plan plan.start Link address
 
 -- ---- the first rule that isn't met
 
--- no element fails a test just where all pass it
+-- no element fails a test exactly if all pass it
 find-list_all : (q : Rule → Bool) (rs : List Rule) → is_ok (verdict_from (find (λ r. not (q r)) rs)) ≡ list_all q rs
 find-list_all q [] = refl
 find-list_all q (r ∷ rs) =
@@ -213,7 +213,7 @@ pub verdict-follows : (plan : Plan) (page : List ℕ) (kind : EdgeKind) (address
 unfolding follows_of first_unmet
 verdict-follows plan page kind address = find-list_all (λ r. meets r plan page kind address) rules
 
--- what is found first stands behind what passes the test, and fails it
+-- what is found first comes after what passes the test, and fails it
 find-split : (q : Rule → Bool) (rs : List Rule) (u : Rule) → find (λ r. not (q r)) rs ≡ Some u → (before after : List Rule) × (rs ≡ before ++ u ∷ after) × All (λ r. q r ≡ true) before × (q u ≡ false)
 find-split q [] u found = cc
 find-split q (r ∷ rs) u found =

@@ -34,7 +34,7 @@ pub exact-matches : (exact parts : List Part) (text : List ℕ) (ignores_case : 
 exact-matches exact parts text ignores_case counted seen =
     ap (λ ps. is_match is_run takes ps text) seen ∙ ap (λ b. is_match is_run (takes_in b) parts text) (sym counted)
 
--- the part that a byte begins with: a class, nothing where no `]` stands, or a byte outside of a class
+-- the part that a byte begins with: a class, nothing if there is no `]`, or a byte outside of a class
 pub part_class : (byte : ℕ) (text : List ℕ) (end : ℕ) (class : ClassValue) → byte ≡ 91 → Some end ≡ position is_end text → bracketed_class (take end text) ≡ Some class → first_part byte text ≡ Some (part.Class class, drop (end + 1) text)
 part_class byte text end class opens stands reads = rw (opens, sym stands, reads) refl
 

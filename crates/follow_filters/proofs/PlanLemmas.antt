@@ -1,4 +1,4 @@
--- When plans are equal: where their values are, since their facts have one proof each. No field is named: `to` of a type lists its
+-- When plans are equal: if their values are, since their facts have one proof each. No field is named: `to` of a type lists its
 -- values in the order in which a derived `==` compares them. A field of a type that no field had before needs its test in `values`.
 use Rattle.std.proofs.Common.{◌≡◌, ◌&&◌, ℕ, Bool, List, bytes_eq, refl, ap}
 use Rattle.std.specs.Bool.{Decides}

@@ -15,7 +15,7 @@ use Rattle.std.specs.Str.{str_to_ascii_lowercase}
 pub drop_slice : {X : Type 0} (xs : List X) (n : ℕ) → take (length xs - n) (drop n xs) ≡ drop n xs
 drop_slice xs n = ap (λ k. take k (drop n xs)) (sym (length-drop n xs)) ∙ take-length (drop n xs)
 
--- a text begins with two texts where it begins with the first, and what follows with the second
+-- a text begins with two texts if it begins with the first, and what follows with the second
 pub starts_with-append : (xs p q : List ℕ) → starts_with nat_eq xs (p ++ q) ≡ (starts_with nat_eq xs p && starts_with nat_eq (drop (length p) xs) q)
 starts_with-append xs [] q = refl
 starts_with-append [] (x ∷ p) q = refl
@@ -25,7 +25,7 @@ starts_with-append (y ∷ xs) (x ∷ p) q = ap (λ t. nat_eq x y && t) (starts_w
 lower_dot : (b : ℕ) → nat_eq 46 (to_ascii_lowercase b) ≡ nat_eq b 46
 lower_dot b = grind (arith, nat_tests)
 
--- a text ends in a dot and another text, in any case, where a dot and that text stand at its end
+-- a text ends in a dot and another text, in any case, if a dot and that text are at its end
 pub ends_with-dot : (host domain : List ℕ) (dot : ℕ) → dot + 1 + length domain ≡ length host → ends_with nat_eq (str_to_ascii_lowercase host) (codes "." ++ str_to_ascii_lowercase domain) ≡ (nat_eq (get_or host dot 0) 46 && bytes_eq (str_to_ascii_lowercase domain) (str_to_ascii_lowercase (drop (dot + 1) host)))
 ends_with-dot host domain dot size =
     let at : length (str_to_ascii_lowercase host) - length (codes "." ++ str_to_ascii_lowercase domain) ≡ dot = simp length-map (omega arith) in

@@ -1,4 +1,4 @@
--- Classes of bytes in a pattern, as `[a-c]` (GNU Wget manual, section Types of Files).
+-- Classes of bytes in a pattern, such as `[a-c]` (GNU Wget manual, section Types of Files).
 use Rattle.std.specs.Prelude.{ℕ, Bool, true, false, not, ◌&&◌, ◌||◌, ◌==◌, nat_le, nat_lt, List, [], ◌∷◌, Option, Some, None, option_map, if◌then◌else◌}
 use Rattle.std.specs.Char.{to_ascii_lowercase, to_ascii_uppercase}
 use Rattle.std.specs.List.{list_any}
@@ -13,7 +13,7 @@ is_in byte range = nat_le range.low byte && nat_le byte range.high
 abbrev pub class_names : ClassValue → ℕ → Bool
 class_names class byte = list_any (λ range. is_in byte range) class.ranges
 
--- a class takes what its ranges name, or where it is negated what none names
+-- a class takes what its ranges name, or if it is negated what none names
 abbrev pub class_takes : ClassValue → ℕ → Bool
 class_takes class byte = if class.is_negated then not (class_names class byte) else class_names class byte
 
@@ -31,7 +31,7 @@ class_takes_any_case class byte = if class.is_negated then not (class_names_lett
 abbrev pub range : ℕ → ℕ → Range
 range low high = record { low = low; high = high }
 
--- a range and the ranges behind it, none where those are bad or its first byte is above its last
+-- a range and the ranges after it, none if those are bad or its first byte is above its last
 abbrev pub then_range : Range → Option (List Range) → Option (List Range)
 then_range first others = if nat_lt first.high first.low then None else option_map (λ ranges. first ∷ ranges) others
 
@@ -50,7 +50,7 @@ class_with is_negated None = None
 class_with is_negated (Some []) = None
 class_with is_negated (Some (first ∷ others)) = Some (record { is_negated = is_negated; ranges = first ∷ others })
 
--- the class whose brackets stand around these bytes: a `!` where one comes first, and items
+-- the class whose brackets are around these bytes: a `!` if one comes first, and items
 abbrev pub bracketed_class : List ℕ → Option ClassValue
 bracketed_class [] = None
 bracketed_class (first ∷ inner) =

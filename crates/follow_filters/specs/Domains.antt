@@ -32,6 +32,6 @@ is_domain_byte byte = is_ascii_alphanumeric byte || byte == 45 || byte == 95 || 
 abbrev pub is_domain : List ℕ → Bool
 is_domain text = not (length text == 0) && list_all is_domain_byte text
 
--- the domain that a text is without one leading dot, none where that is no domain
+-- the domain that a text is without one leading dot, none if that is no domain
 unfoldable pub read_domain : List ℕ → Option (List ℕ)
 read_domain text = if is_domain (without_dot text) then Some (without_dot text) else None

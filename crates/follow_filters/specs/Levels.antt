@@ -13,7 +13,7 @@ is_level_number digits =
     nat_lt 0 (length digits) && list_all (λ d. nat_lt (digit_value d) 10) digits
     && nat_lt (digits_value 10 digits) (2 ^ 32)
 
--- the number that a text is: decimal digits, perhaps behind a `+`
+-- the number that a text is: decimal digits, perhaps after a `+`
 unfoldable pub number_in : List ℕ → Option ℕ
 number_in text =
     if is_level_number (without_leading_plus text) then Some (digits_value 10 (without_leading_plus text))

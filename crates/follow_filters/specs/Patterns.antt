@@ -42,34 +42,34 @@ unit_of byte = if byte == 42 then part.Run else (if byte == 63 then part.Any els
 abbrev pub is_end : ℕ → Bool
 is_end byte = byte == 93
 
--- the class whose `]` stands at this place of the text, and what stands behind it; none where the class is bad or has no `]`
+-- the class whose `]` is at this place of the text, and what follows it; none if the class is bad or has no `]`
 abbrev pub class_to : List ℕ → Option ℕ → Option (Part × List ℕ)
 class_to text None = None
 class_to text (Some end) = option_map (λ class. (part.Class class, drop (end + 1) text)) (bracketed_class (take end text))
 
--- the part that a byte and the text behind it begin with, and what stands behind that part: a `[` begins a class, which goes
+-- the part that a byte and the text after it begin with, and what follows that part: a `[` begins a class, which goes
 -- to the next `]`
 abbrev pub first_part : ℕ → List ℕ → Option (Part × List ℕ)
 first_part byte text = if byte == 91 then class_to text (position is_end text) else Some (unit_of byte, text)
 
--- the parts that a text of at most so many bytes spells: its first part and those behind it
+-- the parts that a text of at most so many bytes spells: its first part and those after it
 abbrev pub parts_within : ℕ → List ℕ → Option (List Part)
 parts_within zero text = Some []
 parts_within (suc most) [] = Some []
 parts_within (suc most) (byte ∷ text) =
     option_and_then (λ split. option_map (λ parts. split.0 ∷ parts) (parts_within most split.1)) (first_part byte text)
 
--- the parts that a text spells, none where it is bad
+-- the parts that a text spells, none if it is bad
 unfoldable pub parts_spelled : List ℕ → Option (List Part)
 parts_spelled text = parts_within (length text) text
 
--- the parts of an element: those that it spells, or where none of its bytes is a wildcard any run and its bytes
+-- the parts of an element: those that it spells, or if none of its bytes is a wildcard, any run and its bytes
 unfoldable pub read_pattern : List ℕ → Option (List Part)
 read_pattern element =
     if list_any is_wildcard element then parts_spelled element
     else Some (part.Run ∷ map (λ b. part.Byte b) element)
 
--- the text, where it is an element: then contracts see the pattern as it
+-- the text, if it is an element: then contracts see the pattern as it
 abbrev pub read_element : List ℕ → Option (List ℕ)
 read_element element = option_map (λ parts. element) (read_pattern element)
 

@@ -178,7 +178,7 @@ follows_of plan page kind address = list_all (λ r. meets r plan page kind addre
 abbrev pub passes_of : Plan → List ℕ → Bool
 passes_of plan address = follows_of plan plan.start Link address
 
--- nothing where the edge is followed, else the first rule that it doesn't meet
+-- nothing if the edge is followed, else the first rule that it doesn't meet
 abbrev pub verdict_from : Option Rule → Result (Unit {0}) Rule
 verdict_from None = Ok tt
 verdict_from (Some unmet) = Err unmet

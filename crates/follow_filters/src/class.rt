@@ -1,4 +1,4 @@
-//! Classes of bytes in a pattern, as `[a-c]` (GNU Wget manual, section Types of Files).
+//! Classes of bytes in a pattern, such as `[a-c]` (GNU Wget manual, section Types of Files).
 ghost use Rattle.std.specs.Prelude.{◌≡◌, ◌<◌, [], length, Some, MatchOption, MatchResult, is_some};
 ghost use Rattle.follow_filters.specs.Classes.{bracketed_class, class_with, ranges_of, then_range};
 ghost use Rattle.follow_filters.specs.Elements.{IsFaultOf};
@@ -14,7 +14,7 @@ pub(crate) struct Range {
     high: u8,
 }
 
-/// A class of bytes, as `[a-c]` or `[!a-c]`.
+/// A class of bytes, such as `[a-c]` or `[!a-c]`.
 #[derive(Drop)]
 pub(crate) struct Class {
     is_negated: bool,
@@ -45,8 +45,8 @@ impl Class {
     ghost use Rattle.follow_filters.specs.Classes.{class_names, class_takes, class_names_letter, class_takes_any_case, bracketed_class};
     ghost use Rattle.follow_filters.specs.Elements.{ReadsElement};
 
-    /// Reads what stands between the brackets of a class: a `!` where one comes first, and one or
-    /// more items; `Bad` where there is none, or where one has its greater byte first.
+    /// Reads what is between the brackets of a class: a `!` if one comes first, and one or more items; `Bad` if there
+    /// is none, or if one has its greater byte first.
     pub(crate) fn read(alloc: Global, inner: &[u8]) -> Result<Class, ElementFault>
         ensures { ReadsElement result (bracketed_class inner.now) }
     {
@@ -111,7 +111,7 @@ fn split_negation(inner: &[u8]) -> (bool, &[u8])
     }
 }
 
-// The first item of a class, and the items behind it: `x-y` is a range, and any other byte stands for itself.
+// The first item of a class, and the items after it: `x-y` is a range, and any other byte means itself.
 fn split_item(items: &[u8]) -> Option<(Range, &[u8])>
     ensures { MatchOption result (items.now ≡ []) (λ x. (ranges_of items.now ≡ then_range x.0 (ranges_of x.1.now))
         × (length x.1.now < length items.now)) }

@@ -36,7 +36,7 @@ impl Directory {
     ghost use Rattle.follow_filters.specs.Elements.{ReadsElement};
     ghost use Rattle.follow_filters.specs.Directories.{is_in_directory, read_directory};
 
-    /// Reads a directory. A slash that lacks in front is put there, and the slashes at its end are
+    /// Reads a directory. A slash that is missing in front is put there, and the slashes at its end are
     /// taken off. A class that is empty, unclosed, has a slash in it or a range with its greater byte
     /// first is `Bad`, and nothing else.
     pub fn read(alloc: Global, text: &str) -> Result<Directory, ElementFault>

@@ -8,7 +8,7 @@ use crate::elements::ElementFault;
 use std::alloc::{AllocError, Global};
 use std::marker::Model;
 
-/// A domain, as `foo.edu`: it has the host `foo.edu` and those that end in `.foo.edu`.
+/// A domain, such as `foo.edu`: it has the host `foo.edu` and those that end in `.foo.edu`.
 #[derive(Drop)]
 pub struct Domain {
     text: String,

@@ -95,7 +95,7 @@ impl<T> Elements<T> {
         self.items.is_empty()
     }
 
-    // The same elements, where copies of them are equal to them.
+    // The same elements, if copies of them are equal to them.
     pub(crate) fn try_clone(&self) -> Result<Elements<T>, AllocError>
     where
         T: Clone,

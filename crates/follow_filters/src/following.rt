@@ -234,7 +234,7 @@ impl Plan {
 
     /// Whether the address may be followed from a link of the start, or the first rule that it doesn't
     /// meet. Of a plan of one start that spans neither hosts nor requisites each edge of a page on its
-    /// host is followed just where this answers so. Takes no memory.
+    /// host is followed exactly if this answers so. Takes no memory.
     pub fn passes(&self, address: &Address) -> Result<(), Rule>
         ensures value { result ≡ verdict_of self.now address.now }
         ensures passes { is_ok result ≡ passes_of self.now address.now }

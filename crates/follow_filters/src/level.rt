@@ -28,8 +28,8 @@ impl Limit {
     ghost use Rattle.follow_filters.specs.Limits.{is_in_range};
     ghost use Rattle.follow_filters.specs.Levels.{read_level};
 
-    /// The limit that a level asks for: decimal digits up to 1,000,000, where 0 is no limit, or
-    /// `inf`; `None` where the text is neither. Takes no memory.
+    /// The limit that a level means: decimal digits up to 1,000,000, of which 0 is no limit, or `inf`; `None` if the
+    /// text is neither. Takes no memory.
     #[tactic(auto, unfolding(crate::specs::Levels::read_level))]
     pub fn read(text: &str) -> Option<Limit>
         ensures value { result ≡ read_level text.now }

@@ -1,5 +1,5 @@
 //! What may be followed: the plan of a retrieval, and the rules that an address has to meet
-//! (GNU Wget manual, chapter Following Links). What the rules mean stands in `specs/Rules.antt`. Its tests stand in `site_tests`.
+//! (GNU Wget manual, chapter Following Links). What the rules mean is in `specs/Rules.antt`. Its tests are in `site_tests`.
 #![tactic(auto)]
 
 pub use crate::directory::Directory;

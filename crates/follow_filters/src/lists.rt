@@ -1,4 +1,4 @@
-//! Lists of elements, which stand between commas (GNU Wget manual, chapter Following Links).
+//! Lists of elements, which are between commas (GNU Wget manual, chapter Following Links).
 ghost use Rattle.std.specs.Prelude.{◌≡◌, ◌<◌, ◌∷◌, [], length, MatchOption};
 ghost use Rattle.std.specs.List.{slice_split};
 ghost use Rattle.follow_filters.specs.Elements.{ReadsElement};
@@ -17,7 +17,7 @@ pub trait Element: Sized + Drop {
 
     ghost read_of: { List ℕ → Option Self };
 
-    /// Reads an element; `Bad` where the text breaks the grammar of its kind.
+    /// Reads an element; `Bad` if the text breaks the grammar of its kind.
     fn read(alloc: Global, text: &str) -> Result<Self, ElementFault>
         ensures { ReadsElement result (read_of text.now) };
 }
@@ -52,7 +52,7 @@ impl Element for Domain {
     }
 }
 
-// What stands before the first comma, and what stands behind it, where there is one.
+// What is before the first comma, and what follows it, if there is one.
 fn split_list(list: &str) -> (&str, Option<&str>)
     ensures { MatchOption result.1 (slice_split is_comma list.now ≡ result.0.now ∷ [])
         (λ rest. (slice_split is_comma list.now ≡ result.0.now ∷ slice_split is_comma rest.now) × (length rest.now < length list.now)) }
@@ -64,8 +64,8 @@ fn split_list(list: &str) -> (&str, Option<&str>)
 }
 
 impl<T: Element> Elements<T> {
-    /// Reads a list, as `a,b`: its elements stand between commas, and empty ones are dropped; `Bad`
-    /// where one breaks the grammar of its kind.
+    /// Reads a list, such as `a,b`: its elements are between commas, and empty ones are dropped; `Bad` if one breaks
+    /// the grammar of its kind.
     pub fn read(alloc: Global, list: &str) -> Result<Elements<T>, ElementFault>
         ensures { ReadsElement result (read_list T.read_of list.now) }
     {

@@ -69,7 +69,7 @@ impl Pattern {
     ghost use Rattle.follow_filters.specs.KeptNames.{text_of_name};
     ghost use Rattle.follow_filters.specs.Patterns.{is_file_match, read_element};
 
-    /// Reads a pattern of whole file names, or a suffix of them where the text has none of `*`, `?`,
+    /// Reads a pattern of whole file names, or a suffix of them if the text has none of `*`, `?`,
     /// `[` and `]`. A class that is empty, unclosed, or has a range with its greater byte first is
     /// `Bad`.
     pub fn read(alloc: Global, text: &str) -> Result<Pattern, ElementFault>
@@ -131,7 +131,7 @@ impl Part {
     ghost use Rattle.std.specs.Prelude.{◌≡◌};
     ghost use Rattle.follow_filters.specs.Patterns.{unit_of};
 
-    // A byte that stands outside of a class.
+    // A byte that is outside of a class.
     pub(crate) fn of(byte: u8) -> Part
         ensures { result ≡ unit_of byte }
     {

@@ -27,7 +27,7 @@ pub const MAX_PER_HOST: u32 = 16;
 pub struct Plan {
     /// Where the retrieval starts. It isn't a robots file.
     pub start: Address,
-    /// Where it starts besides, in any order; none is a robots file. One that stands twice counts once.
+    /// Where it starts besides, in any order; none is a robots file. One that occurs twice counts once.
     pub others: Starts,
     /// How many hops are followed, at most 1,000,000 or without limit.
     pub limit: Limit,
@@ -77,7 +77,7 @@ pub struct Plan {
 impl Plan {
     ghost use Rattle.follow_filters.specs.Plans.{IsUnfiltered};
 
-    /// A plan of one start without filters: the start's host is followed but for its robots file, robots files
+    /// A plan of one start without filters: the start's host is followed, except its robots file, robots files
     /// aren't honoured, nothing lies beyond the limit, and two requests may be out to an origin. Takes no memory.
     pub fn unfiltered(alloc: Global, start: Address, limit: Limit, max_urls: u32) -> Plan
         requires page { is_robots_file start ≡ false }

@@ -10,8 +10,7 @@ use crate::pattern::Part;
 use crate::wildcards::has_wildcard;
 use std::alloc::{AllocError, Global};
 
-/// The parts of an element: those that it spells, or where none of its bytes is a wildcard any run
-/// and its bytes.
+/// The parts of an element: those that it spells, or if none of its bytes is a wildcard, any run and its bytes.
 pub(crate) fn read_parts(alloc: Global, element: &[u8]) -> Result<Vec<Part>, ElementFault>
     ensures { MatchResult result (λ v. read_pattern element.now ≡ Some v.items) (IsFaultOf (read_pattern element.now)) }
 {
@@ -48,7 +47,7 @@ pub(crate) fn spelled_parts(alloc: Global, text: &[u8]) -> Result<Vec<Part>, Ele
     Ok(parts)
 }
 
-// The part that a byte and the text behind it begin with, and what stands behind that part.
+// The part that a byte and the text after it begin with, and what follows that part.
 fn split_part<'a>(
     alloc: Global,
     first: u8,
@@ -98,7 +97,7 @@ fn after_part(first: u8, text: &[u8]) -> Option<&[u8]>
     Some(&text[end + 1..])
 }
 
-// Where the first `]` stands.
+// The place of the first `]`.
 fn class_end(text: &[u8]) -> Option<usize>
     ensures place { result ≡ position is_end text.now }
     ensures within { IfSome result (λ end. end < length text.now) }

@@ -118,7 +118,7 @@ impl Starts {
         }
     }
 
-    /// These starts, in their order. The error is want of memory.
+    /// These starts, in their order. Fails only if memory runs out.
     pub fn of(alloc: Global, list: Vec<Address>) -> Result<Starts, AllocError>
         ensures { IfOk result (λ starts. starts ≡ list.items) }
     {

@@ -1,4 +1,4 @@
--- Each origin whose rules were asked for needs them.
+-- Each origin whose rules were requested needs them.
 use Rattle.std.proofs.Common.{◌≡◌, Bool, true, false, ◌||◌, not, List, Some, None, Option, refl, sym, ◌∙◌}
 use Rattle.std.specs.Prelude.{IsSome}
 use Rattle.std.specs.Str.{bytes_eq}

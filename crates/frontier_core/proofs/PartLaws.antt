@@ -1,4 +1,4 @@
--- Starts of different hosts know nothing of each other where hosts aren't spanned: what is found is the union of what the parts find.
+-- Starts of different hosts know nothing of each other if hosts aren't spanned: what is found is the union of what the parts find.
 use Rattle.std.proofs.Common.{◌≡◌, ◌⊎◌, ◌↔◌, ◌∙◌, ℕ, ◌+◌, ◌≤◌, Bool, true, false, ◌&&◌, ◌||◌, not, List, [], ◌∷◌, Option, Some, None, refl, sym, ap, subst, inl, inr, ⊎_elim}
 use Rattle.std.specs.Prelude.{Contains, IsTrue}
 use Rattle.std.proofs.lemmas.Bool.{cases_Bool}

@@ -44,7 +44,7 @@ same_rules : (p q : Policy) → IsSame p q → (u : Text) (o : Option RuleSetVal
 same_rules p q like u None = refl
 same_rules p q like u (Some rules) = like.allows rules u
 
--- an address is open by the one where it is by the other
+-- an address is open by the one if it is by the other
 pub same_open : (p q : Policy) (m : Answers) → IsSame p q → (u : Text) → is_open_address p m u ≡ is_open_address q m u
 same_open p q m like u =
     ap (λ b. (b || not p.robots) || is_allowed_by_rules p u (m.rules (p.origin u))) (same_start p q like u)

@@ -79,7 +79,7 @@ held_start entries (first ∷ more) u e held =
       ]
     ]
 
--- a slot that stands stays by being put there again
+-- a slot that is there stays by being put there again
 pub put_again : {V : Type 0} (entries : List (Text × V)) (u : Text) (v : V) → lookup entries u ≡ Some v → put entries u v ≡ entries
 put_again [] u v held = cc
 put_again (entry ∷ entries) u v held =

@@ -11,7 +11,7 @@ use Rattle.frontier_core.specs.inner.TableCalls.{edges_at, outcome_edges, key_nu
 use Rattle.frontier_core.specs.Invariants.{IsStuck, IsOverfull}
 use Rattle.frontier_core.proofs.FindLaws.{placed}
 
--- an edge that stands there, is followed and leads out
+-- an edge that is there, is followed and leads out
 pub stuck_at : (p : Policy) (s : State) (u : Text) (held : Slot) (k : ℕ) (edge : Edge) → lookup s.entries u ≡ Some held → slice_get (edges_at s u) k ≡ Some edge
     → admits p u edge (held.depth + weight edge.kind) ≡ true → lookup s.entries edge.target ≡ None → IsStuck p s held.depth u k
 stuck_at p s u held k edge found has adm none = go held.progress (found) (subst (λ z. slice_get (outcome_edges (slot_outcome z)) k ≡ Some edge) found has)
@@ -36,7 +36,7 @@ unstuck p s u held k edge found has inside d (x, offering, other, at, here, adm,
     inside (subst (λ (n : ℕ). admits p u edge (n + weight edge.kind) ≡ true) depth (subst (λ (e : Edge). admits p u e (d + weight e.kind) ≡ true) is adm))
     (subst (λ (e : Edge). lookup s.entries e.target ≡ None) is none)
 
--- an edge that leads out stands among the edges
+-- an edge that leads out is among the edges
 pub stuck_within : (p : Policy) (s : State) (u : Text) (d k : ℕ) → IsStuck p s d u k → k < length (edges_at s u)
 stuck_within p s u d k (x, offering, edge, at, here, adm, none) =
     subst (λ z. k < length (outcome_edges (slot_outcome z))) (sym at) (slice_get_within (edges x) k edge here)
@@ -46,7 +46,7 @@ pub overfull_at : (p : Policy) (s : State) (u : Text) → p.max_urls ≤ length 
 overfull_at p s u full d k (x, offering, edge, at, here, adm, none) =
     (full, u, d, x, offering, edge, at, (k, slice_get_within (edges x) k edge here, get_or_from_slice_get (edges x) k edge edge here), adm, none)
 
--- an overfull table has such an edge at an address that stands at a place
+-- an overfull table has such an edge at an address that is at a place
 pub stuck_of : (p : Policy) (s : State) → IsOverfull p s → (i : ℕ) × (i < length s.entries) × (d : ℕ) × (k : ℕ) × IsStuck p s d (key_numbered s.entries i) k
 stuck_of p s (full, u, d, x, offering, edge, held, (k, lt, is), adm, none) =
     let there = placed s.entries u (slot d (Answered x offering)) held in (

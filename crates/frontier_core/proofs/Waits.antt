@@ -20,7 +20,7 @@ held_up p s busy (Stop cause) next step = refl
 
 -- ---- whether it is busy
 
--- a No, where it isn't so
+-- a No, if it isn't so
 pub said_no : {Q : Type 0} → (Q → ⊥) → IsTrue false ↔ Q
 said_no never = (λ is. let wrong : false ≡ true = is in cc, λ q. absurd (never q))
 

@@ -16,17 +16,17 @@ is_out_to_worker Refused = false
 abbrev pub out_to_workers : State → ℕ
 out_to_workers s = count_by (λ entry. is_out_to_worker entry.1.progress) s.entries
 
--- the rules are asked for by a worker
+-- the rules are requested by a worker
 abbrev pub is_asked : OriginRules → Bool
 is_asked (Asked Nobody) = false
 is_asked (Asked (Worker worker)) = true
 is_asked (Known rules) = false
 
--- how many origins' rules are asked for by workers
+-- how many origins' rules are requested by workers
 abbrev pub asked_by_workers : State → ℕ
 asked_by_workers s = count_by (λ origin. is_asked origin.1) s.origins
 
--- one where nothing has stopped the frontier
+-- one if nothing has stopped the frontier
 abbrev pub stop_count : Option Cause → ℕ
 stop_count None = 1
 stop_count (Some cause) = 0

@@ -1,4 +1,4 @@
--- How much waits: what is left to do, but for what is out to workers.
+-- How much waits: what is left to do, except what is out to workers.
 use Rattle.std.specs.Prelude.{ℕ, ◌+◌, Bool, true, false, count_by}
 use Rattle.frontier_core.specs.Machine.{State, Progress, Parked, Waiting, Out, Answered, Refused, Due, Offered, OriginRules, Asked, Known, Worker, Nobody}
 
@@ -12,7 +12,7 @@ is_put_off (Answered x Due) = true
 is_put_off (Answered x Offered) = false
 is_put_off Refused = false
 
--- the rules were asked for and given up
+-- the rules were requested and given up
 abbrev pub are_given_up : OriginRules → Bool
 are_given_up (Asked (Worker worker)) = false
 are_given_up (Asked Nobody) = true

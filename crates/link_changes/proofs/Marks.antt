@@ -1,4 +1,4 @@
--- Texts with a fragment behind them.
+-- Texts followed by a fragment.
 use Rattle.std.proofs.Common.{◌≡◌, ◌≢◌, ℕ, ◌<◌, ◌≤◌, ◌||◌, ◌&&◌, nat_lt, Bool, true, false, ◌-◌, zero, suc, length, take, drop, length-drop, List, [], ◌∷◌, ◌++◌, All, if◌then◌else◌, ◌==◌, refl, sym, ap, ◌∙◌, inl, inr, arith}
 use Rattle.std.proofs.lemmas.Bool.{eqb-true, agree_below, agree_below_at}
 use Rattle.std.proofs.lemmas.Bool.Decides.{nat_tests}

@@ -14,7 +14,7 @@ pub enum Form {
     Value,
     /// A style sheet, in a file or in a page.
     Sheet,
-    /// A source set, as `srcset`.
+    /// A source set, such as `srcset`.
     Set,
     /// A refresh.
     Refresh,

@@ -36,7 +36,7 @@ impl Mirror for OnePage {
     }
 }
 
-// Each line: the file, the base, the form, the text of a link, and what is written for it; `-` where it stays. `http://h/d/b?x=1` is
+// Each line: the file, the base, the form, the text of a link, and what is written for it; `-` if it stays. `http://h/d/b?x=1` is
 // kept as `h/d/b?x=1`, and `http://h/old` redirects to it.
 const ROWS: &str = "h/d/a http://h/d/a Value b?x=1 b%3Fx%3D1
 h/d/a http://h/d/a Value b?x=1#f b%3Fx%3D1#f

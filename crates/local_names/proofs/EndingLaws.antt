@@ -17,7 +17,7 @@ use Rattle.local_names.specs.PlainNames.{slash, plain_name_within, plain_name_of
 use Rattle.local_names.specs.Endings.{ends_in, ending_for, shows_kind, ended_name, ended_names, ending_size, stem_of, ending_of}
 use Rattle.local_names.specs.Names.{numbered_by}
 
--- no `/` stands in the text
+-- the text has no `/`
 abbrev pub NoSlash : List ℕ → Type 0
 NoSlash [] = Unit {0}
 NoSlash (b ∷ bs) = (b ≢ slash) × NoSlash bs

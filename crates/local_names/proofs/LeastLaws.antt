@@ -1,4 +1,4 @@
--- Names that no later page asks for: they stand before the least stem behind.
+-- Names that no later page may get: they order before the least stem of the later ones.
 use Rattle.std.proofs.Common.{zero, suc, ◌≡◌, ℕ, Bool, ◌+◌, ◌-◌, ◌≤◌, ◌<◌, true, false, List, [], ◌∷◌, ◌++◌, map, length, get_or, inl, inr, sym, refl, ap, ◌∙◌, subst, arith}
 use Rattle.std.proofs.lemmas.Bool.{cases_lt, false_from_ne_true}
 use Rattle.std.proofs.lemmas.Cmp.{nat_list_cmp_total, nat_cmp_total, tied_itself}
@@ -16,7 +16,7 @@ use Rattle.local_names.proofs.EndingLaws.{stem_ending}
 use Rattle.local_names.proofs.NamingLaws.{IsBehind, numbered_name-zero, numbered_name-suc}
 use Rattle.local_names.proofs.OrderLaws.{texts_equal, before_trans}
 
--- a text doesn't stand before its own front
+-- a text doesn't order before its own front
 pub front_not_less : (own rest : List ℕ) → is_lt (slice_cmp nat_cmp (own ++ rest) own) ≡ false
 front_not_less [] [] = refl
 front_not_less [] (x ∷ rest) = refl
@@ -32,7 +32,7 @@ numbered_not_less h own zero =
 numbered_not_less h own (suc k) =
     subst (λ name. is_lt (slice_cmp nat_cmp name (stem_of h own)) ≡ false) (sym (numbered_name-suc h own k)) (front_not_less (stem_of h own) (46 ∷ (decimal (suc k) ++ ending_of h own)))
 
--- what stands before a text that isn't behind another stands before the other
+-- what orders before a text that doesn't order after another orders before the other
 pub before_lower : (name low other : List ℕ) → is_lt (slice_cmp nat_cmp name low) ≡ true → is_lt (slice_cmp nat_cmp other low) ≡ false → is_lt (slice_cmp nat_cmp name other) ≡ true
 before_lower name low other less none = by (slice_cmp nat_cmp other low) refl
   where
@@ -66,7 +66,7 @@ least_more names least i name low count inside place own others so m j below rea
           ]))
     ]
 
--- what a test of the least name behind a place says
+-- what a test of the least name after a place says
 pub past_of : (least : List (Bor (List ℕ))) (i : ℕ) (name : List ℕ) → (i + 1 < length least → (d : Bor (List ℕ)) → is_lt (slice_cmp nat_cmp name (get_or least (length least - (i + 2)) d).now) ≡ true) → IsPast (map lent_text least) i name
 past_of least i name tested more =
     let long = length-map least lent_text in
@@ -76,7 +76,7 @@ past_of least i name tested more =
     let read : get_or (map lent_text least) k [] ≡ (get_or least k d).now = get_or-map lent_text least k d [] (omega (arith, long, more)) in
     subst (λ n. is_lt (slice_cmp nat_cmp name (get_or (map lent_text least) (n - (i + 2)) [])) ≡ true) (sym long) (subst (λ x. is_lt (slice_cmp nat_cmp name x) ≡ true) (sym read) this)
 
--- no page behind asks for a name that is past
+-- no later page may get a name that is past
 pub behind_from_past : (h : Bool) (plain least : List (List ℕ)) (i : ℕ) (name : List ℕ) → AreLeast (map (stem_of h) plain) least → IsPast least i name → IsBehind h plain (i + 1) name
 behind_from_past h plain least i name are past j k low within same =
     let stems = map (stem_of h) plain in

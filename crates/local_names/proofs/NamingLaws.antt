@@ -66,7 +66,7 @@ IsNaming-sole plain names others naming other = IsNamingBy-sole false plain name
 
 -- ---- no name is a directory of another
 
--- what stands behind a name adds no directory, if it has no `/`
+-- what follows a name adds no directory, if it has no `/`
 directory_before : (name suffix directory : List ℕ) → NoSlash suffix → IsDirectoryOf (name ++ suffix) directory → IsDirectoryOf name directory
 directory_before [] suffix directory none (rest, is) = absurd (no_slash_inside suffix directory rest none is)
 directory_before (b ∷ name) suffix [] none (rest, is) = (name, ap (λ x. x ∷ name) (let e : b ≡ slash = cc in e))
@@ -96,7 +96,7 @@ numbered_name-suc false own n =
     cond-false (suc n == 0) own (own ++ 46 ∷ decimal (suc n)) (ne_eqb (suc n) 0 (λ e. omega (arith, e)))
     ∙ ap (λ digits. own ++ 46 ∷ digits) (sym (append-nil (decimal (suc n))))
 
--- what stands behind the stem of a numbered name
+-- what follows the stem of a numbered name
 pub no_slash_number : (h : Bool) (own : List ℕ) (number : ℕ) → NoSlash (46 ∷ (decimal number ++ ending_of h own))
 no_slash_number h own number = (λ is. omega (arith, is), NoSlash-append (decimal number) (ending_of h own) (NoSlash-decimal number) (no_slash_ending h own))
 
@@ -155,11 +155,11 @@ numbered_name-injective h own (suc m) (suc n) small small' same =
 
 -- ---- the names that were given so far
 
--- no page from this place on asks for the name
+-- no page from this place on may get the name
 abbrev pub IsBehind : (h : Bool) → List (List ℕ) → ℕ → List ℕ → Type 0
 IsBehind h plain i name = (j k : ℕ) → i ≤ j → j < length plain → numbered_by h (get_or plain j []) k ≢ name
 
--- the first names, and beside each that may be asked for again and some plain names a number below which all its numbered names are taken
+-- the first names, and beside each that may be wanted again and some plain names a number below which all its numbered names are taken
 pub record Assigned (h : Bool) (plain names : List (List ℕ)) (next : List ℕ → Option ℕ) : Type 0 where
   pub each : (k : ℕ) → k < length names → IsFirstFreeBy h plain (take k names) (get_or plain k []) (get_or names k [])
   pub held : (d : List ℕ) → Contains names d → IsSome (next d) ⊎ IsBehind h plain (length names) d
@@ -181,7 +181,7 @@ entry_is_taken h plain names next so q (Some v) e has = let at = so.passed q v e
 pub taken_names : (h : Bool) (plain names : List (List ℕ)) (next : List ℕ → Option ℕ) → Assigned h plain names next → (q : List ℕ) → IsDirectory plain q ⊎ IsSome (next q) → IsDirectory plain q ⊎ Contains names q
 taken_names h plain names next so q taken = elim taken [ inl inside ↦ inl inside | inr has ↦ entry_is_taken h plain names next so q (next q) refl has ]
 
--- a name that the next page asks for is held
+-- a name that the next page wants is held
 asked_is_held : (h : Bool) (plain names : List (List ℕ)) (next : List ℕ → Option ℕ) → Assigned h plain names next → (own : List ℕ) (k : ℕ) → own ≡ get_or plain (length names) [] → length names < length plain → Contains names (numbered_by h own k) → IsSome (next (numbered_by h own k))
 asked_is_held h plain names next so own k place inside given = elim (so.held (numbered_by h own k) given) [
   | inl has ↦ has

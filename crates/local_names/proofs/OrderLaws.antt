@@ -68,7 +68,7 @@ front_of_directory : (other name front : List ℕ) → front ≡ name ++ slash �
 front_of_directory other name front is (rest, e) =
     ap (take (length front)) (e ∙ sym (append_assoc name (slash ∷ []) rest) ∙ ap (λ x. x ++ rest) (sym is)) ∙ take-append_seam front rest
 
--- where a search by the first bytes ends, it found a name that begins so, or there is none
+-- when a search by the first bytes ends, it has found a name that begins so, or there is none
 pub directory_found : (sorted : List (Bor (List ℕ))) (name front : List ℕ) (r : Result ℕ ℕ) → front ≡ name ++ slash ∷ [] → IsSorted text_cmp sorted → IsSearchInRange r (length sorted) → IsBinarySearchResult (front_order front) sorted r → IsTrue (is_ok r) ↔ IsDirectory (map lent_text sorted) name
 directory_found sorted name front (Ok i) is up range found =
     let d : Bor (List ℕ) = record { ref_ptr = (0, 0); now = [] } in
@@ -100,7 +100,7 @@ directory_below sorted name r up range found =
     let long : length front ≡ length name + 1 = length-append name (slash ∷ []) in
     directory_found sorted name front r refl up range (subst (λ n. IsBinarySearchResult (λ (other : Bor (List ℕ)). slice_cmp nat_cmp (take n other.now) front) sorted r) (sym long) found)
 
--- names of which the one before a place stands before all of a directory, and the one there behind all
+-- names of which the one before a place orders before all of a directory, and the one there after all
 pub none_between : (sorted : List (Bor (List ℕ))) (name : List ℕ) (i : ℕ) → IsSorted text_cmp sorted → i ≤ length sorted → ((d : Bor (List ℕ)) → 0 < i → below_order name (get_or sorted (i - 1) d) ≡ Less) → ((d : Bor (List ℕ)) → i < length sorted → below_order name (get_or sorted i d) ≡ Greater) → ¬ IsDirectory (map lent_text sorted) name
 none_between sorted name i up range before behind inside =
     let n = length name + 1 in
@@ -142,7 +142,7 @@ compared_by_parts name directory =
         ap (ordering_then (nat_cmp x y)) (by_parts xs ys)
         ∙ then_assoc (nat_cmp x y) (slice_cmp nat_cmp (take (length ys) xs) ys) (slice_cmp nat_cmp (take 1 (drop (length ys) xs)) (slash ∷ []))
 
--- the same as the code finds it: the next byte counts where as many bytes are the directory, and else not
+-- the same as the code finds it: the next byte counts if as many bytes are the directory, and else not
 pub compared_equal : (name directory n d front : List ℕ) (o r : Ordering) → n ≡ name → d ≡ directory → front ≡ take (length d) n → o ≡ slice_cmp nat_cmp front d → o ≡ Equal → r ≡ slice_cmp nat_cmp (take 1 (drop (length front) n)) (slash ∷ []) → r ≡ slice_cmp nat_cmp (take (length directory + 1) name) (directory ++ slash ∷ [])
 compared_equal name directory n d front o r en ed ef eo is er =
     let same : front ≡ d = texts_equal front d (sym eo ∙ is) in

@@ -1,4 +1,4 @@
--- Segments that are joined and split again, and numbers behind them.
+-- Segments that are joined and split again, and numbers after them.
 use Rattle.std.proofs.Common.{zero, suc, ◌≡◌, ◌≢◌, ℕ, ◌+◌, ◌≤◌, ◌<◌, ◌/◌, ◌%◌, ◌==◌, nat_lt, Bool, false, true, not, ◌&&◌, Option, None, List, [], ◌∷◌, ◌++◌, length, map, get_or, codes, All, refl, sym, ap, ◌∙◌, arith, append_assoc}
 use Rattle.std.proofs.lemmas.Bool.{cond_both, both_ways, ne_eqb, lt-ltb}
 use Rattle.std.proofs.lemmas.List.{length-append}
@@ -82,7 +82,7 @@ joined_text first (next ∷ rest) all =
     (segment_text first (All-head (All IsSegmentByte) first (next ∷ rest) all))
     (All-cons IsUncontrolled slash (join_with_byte slash (next ∷ rest)) refl (joined_text next rest (All-tail (All IsSegmentByte) first (next ∷ rest) all)))
 
--- ---- a number behind the last segment
+-- ---- a number after the last segment
 
 -- a digit
 abbrev IsDigit : ℕ → Type 0
@@ -156,7 +156,7 @@ numbered_segment_is stem ending n is =
           (All-append IsSegmentByte (decimal n) ending (decimal_bytes n) (all_back IsSegmentByte stem ending is.bytes)));
     }
 
--- a segment with a dot and more behind it
+-- a segment with a dot and more after it
 pub dotted_segment_is : (segment rest : List ℕ) → IsSegment segment → All IsSegmentByte (46 ∷ rest) → 1 ≤ length rest → IsSegment (segment ++ 46 ∷ rest)
 dotted_segment_is segment rest is bytes more =
     let whole = segment ++ 46 ∷ rest in

@@ -12,7 +12,7 @@ use Rattle.local_names.specs.PlainNames.{plain_name_within, plain_name_of}
 abbrev pub ends_in : List ℕ → List ℕ → Bool
 ends_in ending name = str_eq_ignore_ascii_case (drop (length name - length ending) name) ending
 
--- ---- the ending that a body asks for
+-- ---- the ending that a body needs
 
 -- the ending of HTML, and of a style sheet; other bodies have none
 abbrev pub ending_for : BodyKind → List ℕ

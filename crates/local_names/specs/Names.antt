@@ -43,7 +43,7 @@ pub record IsNamingBy (has_endings : Bool) (plain names : List (List ℕ)) : Typ
 abbrev pub IsNaming : List (List ℕ) → List (List ℕ) → Type 0
 IsNaming plain names = IsNamingBy false plain names
 
--- no name stands twice
+-- no name occurs twice
 abbrev pub AreDistinct : List (List ℕ) → Type 0
 AreDistinct names = (i j : ℕ) → i < j → j < length names → slice_index_or names i [] ≢ slice_index_or names j []
 

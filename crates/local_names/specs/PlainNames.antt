@@ -1,4 +1,4 @@
--- Plain names: the name that a page has if nothing stands in its way. It is made of the page's address and the rules alone, host
+-- Plain names: the name that a page has if nothing is in its way. It is made of the page's address and the rules alone, host
 -- and path becoming directories (GNU Wget manual, Directory Options).
 use Rattle.std.specs.Prelude.{ℕ, Bool, true, false, not, ◌==◌, ◌&&◌, ◌||◌, ◌-◌, nat_eq, nat_lt, Option, Some, None, List, [], ◌∷◌, ◌++◌, map, take, drop, length, codes, string_bytes, if◌then◌else◌}
 use Rattle.std.specs.Char.{encode_utf8, to_ascii_lowercase, to_ascii_uppercase}
@@ -13,11 +13,11 @@ use Rattle.local_names.specs.declared.rules.LetterCase.TheVariants.{AsIs, Lower,
 use Rattle.local_names.specs.declared.rules.NameRules.{NameRules}
 use Rattle.local_names.specs.declared.plain_name.TheConstants.{MAX_SEGMENT, PART}
 
--- what stands between the segments of a name
+-- what is between the segments of a name
 abbrev pub slash : ℕ
 slash = 47
 
--- the byte stands between two segments
+-- the byte is between two segments
 abbrev pub is_slash : ℕ → Bool
 is_slash byte = byte == slash
 
@@ -101,7 +101,7 @@ abbrev pub cut_in : Bool → ℕ → List Unit → List ℕ
 cut_in is_first room units =
     if is_first && is_part (cut room units) then (percent_encode_byte 46 ++ cut (room - 3) (drop 1 units)) else cut room units
 
--- the segment as it stands in a name, first or after others, with no more bytes than this: its dots escaped, and then cut
+-- the segment as it is in a name, first or after others, with no more bytes than this: its dots escaped, and then cut
 abbrev pub segment_within : Bool → ℕ → List Unit → List ℕ
 segment_within is_first room units = cut_in is_first room (without_dots units)
 
@@ -109,14 +109,14 @@ segment_within is_first room units = cut_in is_first room (without_dots units)
 abbrev pub local_segment : Bool → List Unit → List ℕ
 local_segment is_first units = segment_within is_first MAX_SEGMENT units
 
--- the segments as they stand in a name
+-- the segments as they are in a name
 abbrev pub local_segments : List (List Unit) → List (List ℕ)
 local_segments [] = []
 local_segments (first ∷ others) = local_segment true first ∷ map (local_segment false) others
 
 -- ---- the segments of a page's name
 
--- what stands between host and port, and between file name and query
+-- what is between host and port, and between file name and query
 abbrev pub port_mark : CharRules → ℕ
 port_mark rules = if rules.is_windows then 43 else 58
 
@@ -136,7 +136,7 @@ dir_segments dir = filter has_bytes (slice_split is_slash dir)
 abbrev pub path_units : NameRules → List ℕ → List Unit
 path_units rules segment = units_of rules.chars (percent_decode segment)
 
--- the name that is asked for, or `index.html` if none is, or an empty one
+-- the name that is given, or `index.html` if none is, or an empty one
 abbrev pub or_index : {Y : Type 0} → Option (String Y) → List ℕ
 or_index None = codes "index.html"
 or_index (Some name) = if has_bytes (string_bytes name) then string_bytes name else codes "index.html"
@@ -153,14 +153,14 @@ abbrev pub last_units : NameRules → AddressText → List Unit
 last_units rules page =
     file_units rules (file_of page) ++ marked_units (with_letters rules.chars) (query_mark rules.chars) (percent_decode (query_of page))
 
--- what stands in front of the path: the scheme, and the host
+-- what is in front of the path: the scheme, and the host
 abbrev pub scheme_segment : NameRules → AddressText → List (List Unit)
 scheme_segment rules page = if rules.has_protocol then units_of (with_letters rules.chars) (scheme_text (scheme_of page)) ∷ [] else []
 
 abbrev pub host_segment : NameRules → AddressText → List (List Unit)
 host_segment rules page = if rules.has_host then host_units rules page ∷ [] else []
 
--- the directories of a name: those in front, and those of the path but for the first that are cut
+-- the directories of a name: those in front, and those of the path except the first ones that are cut
 abbrev pub front_segments : NameRules → AddressText → List (List Unit)
 front_segments rules page =
     if rules.has_directories

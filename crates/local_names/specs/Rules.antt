@@ -4,7 +4,7 @@ use Rattle.local_names.specs.declared.rules.CharRules.{CharRules}
 use Rattle.local_names.specs.declared.rules.LetterCase.TheVariants.{AsIs}
 use Rattle.local_names.specs.declared.rules.NameRules.{NameRules}
 
--- each character stands for itself
+-- each character is kept as it is
 abbrev pub usual_chars : CharRules
 usual_chars = record { is_windows = false; is_ascii = false; letter_case = AsIs }
 

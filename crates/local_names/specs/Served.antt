@@ -16,8 +16,8 @@ path_of page = dir_of page ++ file_of page
 abbrev pub index_in : List ℕ → List (List ℕ)
 index_in file = if has_bytes file then [] else codes "index.html" ∷ []
 
--- what a server opens for a page's path, below the folder of its host: the path is decoded and then cut at each `/`; where two
--- stand together they are one to a disk
+-- what a server opens for a page's path, below the folder of its host: the path is decoded and then cut at each `/`; two that
+-- follow each other are one to a disk
 abbrev pub served_segments : AddressText → List (List ℕ)
 served_segments page = filter has_bytes (slice_split is_slash (percent_decode (path_of page))) ++ index_in (file_of page)
 

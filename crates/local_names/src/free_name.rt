@@ -31,7 +31,7 @@ fn numbered(
     format!(in alloc; "{stem}.{number}{ending}")
 }
 
-// The first bytes of a name, as many as asked for if it has them.
+// The first bytes of a name: as many as `len`, if it has them.
 fn front_of(name: &[u8], len: usize) -> &[u8]
     ensures { result.now ≡ take len name.now }
 {
@@ -52,7 +52,7 @@ fn compare_below(name: &str, directory: &str) -> Ordering
     }
 }
 
-// Whether the last of so many of these names, if there is one, stands before all in this directory.
+// Whether the last of so many of these names, if there is one, orders before all in this directory.
 fn ends_before(sorted: &[&str], place: usize, directory: &str) -> bool
     requires { place ≤ length sorted.now }
     ensures { IsTrue result → 0 < place → HoldsAt (λ name. below_order directory.now name ≡ Less) sorted.now (place - 1) }
@@ -60,7 +60,7 @@ fn ends_before(sorted: &[&str], place: usize, directory: &str) -> bool
     place == 0 || compare_below(sorted[place - 1], directory).is_lt()
 }
 
-// Whether the name behind so many of these, if there is one, stands behind all in this directory.
+// Whether the name after so many of these, if there is one, orders after all in this directory.
 fn begins_behind(sorted: &[&str], place: usize, directory: &str) -> bool
     requires { place ≤ length sorted.now }
     ensures { IsTrue result → place < length sorted.now → HoldsAt (λ name. below_order directory.now name ≡ Greater) sorted.now place }
@@ -68,8 +68,8 @@ fn begins_behind(sorted: &[&str], place: usize, directory: &str) -> bool
     place == sorted.len() || compare_below(sorted[place], directory).is_gt()
 }
 
-// Whether the first so many of these names, which are sorted, stand before where a name in this
-// directory would stand, and the others behind it.
+// Whether the first so many of these names, which are sorted, order before where a name in this directory would be,
+// and the others after it.
 fn parts_at(sorted: &[&str], place: usize, directory: &str) -> bool
     requires { IsSorted text_cmp sorted.now }
     ensures { IsTrue result → ¬ IsDirectory (map lent_text sorted.now) directory.now }
@@ -80,8 +80,8 @@ fn parts_at(sorted: &[&str], place: usize, directory: &str) -> bool
     ends_before(sorted, place, directory) && begins_behind(sorted, place, directory)
 }
 
-// Whether the name is a directory of one of these names, which are sorted: those that begin with it and
-// a `/` stand together. They are looked for near this place first, and then by halves.
+// Whether the name is a directory of one of these names, which are sorted: those that begin with it and a `/` are
+// together. They are looked for near this place first, and then by halves.
 fn is_directory(sorted: &[&str], name: &str, near: usize) -> bool
     requires { IsSorted text_cmp sorted.now }
     ensures { IsTrue result ↔ IsDirectory (map lent_text sorted.now) name.now }
@@ -110,7 +110,7 @@ fn is_taken(sorted: &[&str], next: &BTreeMap<String, u64>, name: &str, near: usi
 
 /// The first free name of a page with this plain name, and its number. `sorted` are all plain names in
 /// order; `next` has each given name, and beside it a number below which none of its own numbered names
-/// is free. `near` says where among the sorted names those in a directory of this name would stand; it
+/// is free. `near` says where among the sorted names those in a directory of this name would be; it
 /// may be wrong, and then the search takes longer.
 pub(crate) fn first_free(
     alloc: Global,

@@ -1,4 +1,4 @@
-//! Local names: where the pages of a site stand in a folder. This crate knows which name each page of a
+//! Local names: where the pages of a site are in a folder. This crate knows which name each page of a
 //! list has, whatever the order in which they came; it opens no folder.
 //!
 //! Host and path of a page become directories below the folder, as a web server looks for them; rules
@@ -11,7 +11,7 @@
 //! let names = names(alloc, &rules, &pages)?; // http://h/a and http://h/a/%C3%A4: h/a.1 and h/a/ä
 //! ```
 //!
-//! Its tests stand in `retrieval_tests`.
+//! Its tests are in `retrieval_tests`.
 #![tactic(auto)]
 
 pub use crate::local_name::is_local_name;

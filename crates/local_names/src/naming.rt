@@ -117,8 +117,8 @@ fn least_stems(alloc: Global, has_endings: bool, names: &[String]) -> Result<Vec
     Ok(least)
 }
 
-// Whether this name stands before the stems of all plain names behind this place. Then no page there
-// asks for it, since a plain name, with a number or without, begins with its stem.
+// Whether this name orders before the stems of all plain names after this place. Then no page there may get it, since
+// a plain name, with a number or without, begins with its stem.
 fn is_past(least: &[&str], i: usize, name: &str) -> bool
     requires { i < length least.now }
     ensures { IsTrue result → i + 1 < length least.now → HoldsAt (λ low. is_lt (slice_cmp nat_cmp name.now low.now) ≡ true) least.now (length least.now - (i + 2)) }
@@ -126,7 +126,7 @@ fn is_past(least: &[&str], i: usize, name: &str) -> bool
     i + 1 >= least.len() || name.cmp(least[least.len() - (i + 2)]).is_lt()
 }
 
-// Notes that a page was given this name, which has this number: the number behind it is where to go on
+// Notes that a page was given this name, which has this number: the next number is where to go on
 // with the page's plain name, and 1 with the name itself.
 fn remember(
     alloc: Global,
@@ -145,7 +145,7 @@ fn remember(
     Ok(())
 }
 
-// Notes the same where a page behind this place may ask for the name.
+// Notes the same if a page after this place may get the name.
 fn note(
     alloc: Global,
     next: &mut BTreeMap<String, u64>,
@@ -165,8 +165,8 @@ fn note(
     remember(alloc, next, own, name, number)
 }
 
-// Gives the pages with these plain names theirs, one after another. `next` has beside each given name that may be asked for
-// again, and plain names that were asked for, a number below which none of its numbered names is free.
+// Gives the pages with these plain names theirs, one after another. `next` has for each given name that may be wanted
+// again, and for plain names that were wanted, a number below which none of its numbered names is free.
 fn assign_each(
     alloc: Global,
     has_endings: bool,
@@ -186,8 +186,8 @@ fn assign_each(
 {
     for (i, own) in plain.iter().enumerate() {
         let own = own.as_str();
-        // The pages ascend, so their plain names nearly do: what would stand in a directory of this
-        // name mostly stands just behind as many names.
+        // The pages ascend, so their plain names nearly do: what would be in a directory of this name is mostly just
+        // after as many names.
         let (name, number) = first_free(alloc, has_endings, sorted, next, own, i + 1)?;
         note(alloc, next, least, i, own, name.as_str(), number)?;
         names.push(name)?;

@@ -1,4 +1,4 @@
-//! Plain names: the name that a page has if nothing stands in its way (GNU Wget manual, Directory
+//! Plain names: the name that a page has if nothing is in its way (GNU Wget manual, Directory
 //! Options).
 ghost use Rattle.std.specs.Prelude.{◌≡◌, ◌≤◌, ◌-◌, ◌++◌, ◌∷◌, [], IfOk, OnOk, map, drop, length, string_bytes};
 ghost use Rattle.address.specs.Address.{IsAddress, port_of, port_text, query_of};
@@ -31,14 +31,14 @@ fn decoded(alloc: Global, text: &[u8]) -> Result<Vec<u8>, AllocError>
     Ok(bytes)
 }
 
-// What stands between host and port.
+// What is between host and port.
 fn port_mark(rules: CharRules) -> char
     ensures { result ≡ port_mark rules }
 {
     if rules.is_windows { '+' } else { ':' }
 }
 
-// What stands between file name and query.
+// What is between file name and query.
 fn query_mark(rules: CharRules) -> char
     ensures { result ≡ query_mark rules }
 {
@@ -187,7 +187,7 @@ fn push_dirs(
     Ok(())
 }
 
-// Adds the directories of the path but for the first that are cut.
+// Adds the directories of the path except the first ones that are cut.
 fn push_uncut(
     alloc: Global,
     name: &mut String,
@@ -236,7 +236,7 @@ fn name_within(
     Ok(name)
 }
 
-/// The name that a page has if nothing stands in its way.
+/// The name that a page has if nothing is in its way.
 pub fn plain_name_of(alloc: Global, rules: &NameRules, page: &Address) -> Result<String, AllocError>
     ensures name { IfOk result (λ name. string_bytes name ≡ plain_name_of rules.now page.now) }
     ensures address { IfOk result (λ _. IsAddress page.now) }
@@ -259,7 +259,7 @@ fn name_with_ending(
     Ok(name)
 }
 
-/// The name that a page whose body is of this kind has if nothing stands in its way, and names have endings.
+/// The name that a page whose body is of this kind has if nothing is in its way, and names have endings.
 pub fn ended_name(
     alloc: Global,
     rules: &NameRules,

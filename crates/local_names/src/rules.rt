@@ -18,7 +18,7 @@ pub enum LetterCase {
 /// part of a character in UTF-8 are always escaped.
 #[derive(Clone, Copy, Debug, PartialEq, Eq)]
 pub struct CharRules {
-    /// Those that Windows refuses are escaped, `+` stands in front of the port and `@` in front of the query.
+    /// Those that Windows refuses are escaped, `+` is in front of the port and `@` in front of the query.
     pub is_windows: bool,
     /// Those beyond ASCII are escaped.
     pub is_ascii: bool,
@@ -56,7 +56,7 @@ pub struct NameRules {
     pub chars: CharRules,
 }
 
-/// Each character stands for itself.
+/// Each character is kept as it is.
 impl Default for CharRules {
     ghost is_default = { λ chars. chars ≡ usual_chars };
 

@@ -211,7 +211,7 @@ fn escape_first(name: &mut String, room: usize, units: &[Unit]) -> Result<(), Al
     push_cut(name, room - 3, &units[1..])
 }
 
-// Adds the first units to a name for which there is room. If nothing stands there and they would begin as a part does, their first
+// Adds the first units to a name for which there is room. If nothing is there and they would begin as a part does, their first
 // dot is escaped.
 fn push_apart(name: &mut String, room: usize, units: &[Unit]) -> Result<(), AllocError>
     requires { 3 ≤ room }
@@ -225,7 +225,7 @@ fn push_apart(name: &mut String, room: usize, units: &[Unit]) -> Result<(), Allo
     Ok(())
 }
 
-// Adds what stands between segments, if the name has one.
+// Adds what is between segments, if the name has one.
 fn push_slash(name: &mut String) -> Result<(), AllocError>
     ensures { OnOk result (string_bytes name.new ≡ started (string_bytes name.old)) }
 {

@@ -1,4 +1,4 @@
--- What a person is told of starts that moved away: where their redirects lead that isn't followed, and the words that would go there.
+-- What a person reads of starts that moved away: where their redirects lead that isn't followed, and the words that would go there.
 use Rattle.std.specs.Prelude.{◌&&◌, ◌++◌, ℕ, Bool, true, false, is_some, List, [], Option, None, Some, Result, Ok, Err, bytes_eq, codes, nat_eq, option_map, suc, zero, if◌then◌else◌}
 use Rattle.std.specs.List.{find, flat_map, list_any, starts_with}
 use Rattle.std.specs.Option.{option_map_or}

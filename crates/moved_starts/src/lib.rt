@@ -1,5 +1,5 @@
-//! Starts that moved away: what a person is told if the redirects of a start lead to an address that a filter leaves out, or to none
-//! that is http. It is a function of the plan and of what is recorded, and stands in `specs/Moves.antt`. This crate asks nobody for
+//! Starts that moved away: what a person reads if the redirects of a start lead to an address that a filter leaves out, or to none
+//! that is http. It is a function of the plan and of what is recorded, and is in `specs/Moves.antt`. This crate asks nobody for
 //! anything and writes nothing.
 //!
 //! ```

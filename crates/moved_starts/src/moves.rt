@@ -291,8 +291,8 @@ fn push_moves(
     Ok(())
 }
 
-/// What a person is told of the starts of a plan that moved away, by what is recorded of addresses: a line for each, in the order
-/// in which they are recorded. The error is want of memory.
+/// What a person reads of the starts of a plan that moved away, by what is recorded of addresses: a line for each, in the order
+/// in which they are recorded. Fails only if memory runs out.
 pub fn moves_text(
     alloc: Global,
     plan: &Plan,

@@ -37,7 +37,7 @@ given_some wanted.Style name (b ∷ before) a others h = refl
 given_some wanted.All name [] a others h = refl
 given_some wanted.All name (b ∷ before) a others h = refl
 
--- what follows the value: the other attributes that are kept, and what comes of the rest
+-- what follows the value: the other attributes that are kept, and what results from the rest
 abbrev behind_of : Context → Option Scope → Wanted → Option RawElement → Bool → Attributes → Option (List Attribute × List Source)
 behind_of k scope w raw styled None = None
 behind_of k scope w raw styled (Some found) = Some (asked_attributes w found.0, behind_tag (opened scope found.1 k) raw (unless_closed found.1 styled) found.2)
@@ -53,7 +53,7 @@ tag_is k scope w raw styled name before attribute value (Some found) h =
     ap (λ (all : List Attribute). given w name all ++ tail) (append_assoc before (a ∷ []) (asked_attributes w found.0))
     ∙ ap (λ (xs : List Source). xs ++ tail) (given_some w name before a (asked_attributes w found.0) h)
 
--- what comes of a value that is awaited
+-- what results from a value that is awaited
 awaited : (l : Lexer) (attribute : AskedName) (text value rest : List ℕ) → AwaitsValue l attribute → value_at (from is_not_white text) ≡ valued value rest
     → remaining l text ≡ tag_with l.name.items l.attributes.items (asked_name attribute) (behind_of l.context l.opens l.wanted l.raw l.styled (attributes rest)) value
 awaited l attribute text value rest h is =

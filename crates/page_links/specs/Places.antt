@@ -30,8 +30,8 @@ pub record IsCut (text quote value end : List ℕ) : Type 0 where
 
 -- ---- places
 
--- What comes of a tag of that element, after these of its attributes an attribute of that name and value, and what follows: its other
--- attributes, and what comes of the rest of the page. Nothing, if the end of the page cuts the tag.
+-- What results from a tag of that element, after these of its attributes an attribute of that name and value, and what follows: its other
+-- attributes, and what results from the rest of the page. Nothing, if the end of the page cuts the tag.
 abbrev pub tag_with : List ℕ → List Attribute → List ℕ → Option (List Attribute × List Source) → List ℕ → List Source
 tag_with element before attribute None value = []
 tag_with element before attribute (Some behind) value =

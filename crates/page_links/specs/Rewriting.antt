@@ -57,7 +57,7 @@ pub record IsLinkLeft (old new : Link) : Type 0 where
   pub text : new.text ≡ old.text
   pub unclear : is_unclear old.text ≡ true
 
--- these links are those, each changed, but for some of which the text isn't clear
+-- these links are those, each changed, except some of which the text isn't clear
 abbrev pub AreLinksChanged : Changes → (ValueForm → List ℕ → List ℕ → Type 0) → List Link → List Link → Type 0
 AreLinksChanged changes known [] [] = Unit {0}
 AreLinksChanged changes known [] (n ∷ new) = ⊥
@@ -103,7 +103,7 @@ abbrev pub attributes_with : List Attribute → Attribute → Option (List Attri
 attributes_with before attribute None = before
 attributes_with before attribute (Some behind) = before ++ (attribute ∷ behind.0)
 
--- A page is another one but for a value: at the place of the value of an attribute, the first of its name in its tag, that is the base or has
+-- A page is another one except for a value: at the place of the value of an attribute, the first of its name in its tag, that is the base or has
 -- links by the link table and the attributes of the tag, it has the value with its links changed.
 pub record IsOneAnew (changes : Changes) (syntax : Syntax) (old new : List ℕ) : Type 0 where
   pub front : List ℕ
@@ -123,7 +123,7 @@ pub record IsOneAnew (changes : Changes) (syntax : Syntax) (old new : List ℕ) 
   pub place : IsPlace syntax front quote end rest element before attribute
   pub has_links : form_in element (attributes_with before (record { name = attribute; value = value }) place.behind) attribute ≡ Some form
 
--- A page is another one but for the text of a `style` element, of which it has the references changed.
+-- A page is another one except for the text of a `style` element, of which it has the references changed.
 pub record IsSheetAnew (changes : Changes) (syntax : Syntax) (old new : List ℕ) : Type 0 where
   pub front : List ℕ
   pub sheet : List ℕ
@@ -134,13 +134,13 @@ pub record IsSheetAnew (changes : Changes) (syntax : Syntax) (old new : List ℕ
   pub is : IsSheetText (sheets.rewritten (changes Sheet) sheet) end
   pub place : IsSheetPlace syntax front end
 
--- a page, these after it from the last one back, and one at their end, of which each is the one before it but for a value or the text of a
+-- a page, these after it from the last one back, and one at their end, of which each is the one before it except for a value or the text of a
 -- `style` element
 abbrev pub AreAnew : Changes → Syntax → List ℕ → List (List ℕ) → List ℕ → Type 0
 AreAnew changes syntax page [] last = last ≡ page
 AreAnew changes syntax page (one ∷ earlier) last = AreAnew changes syntax page earlier one × (IsOneAnew changes syntax one last ⊎ IsSheetAnew changes syntax one last)
 
--- The page is the other one but for values and style sheets, in which links were changed one after another.
+-- The page is the other one except for values and style sheets, in which links were changed one after another.
 pub record IsAnew (changes : Changes) (syntax : Syntax) (page other : List ℕ) : Type 0 where
   pub between : List (List ℕ)
   pub one_by_one : AreAnew changes syntax page between other

@@ -12,7 +12,7 @@ abbrev pub begins_number : List ℕ → Bool
 begins_number [] = false
 begins_number (b ∷ bs) = is_ascii_digit b || b == 120 || b == 88
 
--- behind an `&` it goes on as a character reference does, by a number or by a name
+-- after an `&` it goes on as a character reference does, by a number or by a name
 abbrev pub is_reference : List ℕ → Bool
 is_reference [] = false
 is_reference (b ∷ bs) = if b == 35 then begins_number bs else ends_name false (b ∷ bs)

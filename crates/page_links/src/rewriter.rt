@@ -13,7 +13,7 @@ use std::alloc::Global;
 /// What is found in a body of that syntax.
 ///
 /// # Errors
-/// `Memory` where a growth is refused.
+/// `Memory` if a growth is refused.
 pub fn scan(alloc: Global, syntax: Syntax, body: &[u8]) -> Result<Scan, Memory>
     ensures { IfOk result (λ scan. scanned scan ≡ links_of_body syntax body.now) }
 {
@@ -27,7 +27,7 @@ pub fn scan(alloc: Global, syntax: Syntax, body: &[u8]) -> Result<Scan, Memory>
 /// [`scan`] finds in the page.
 ///
 /// # Errors
-/// `Memory` where a growth is refused.
+/// `Memory` if a growth is refused.
 pub fn rewrite<P: PageChange>(
     alloc: Global,
     changes: &P,

@@ -54,7 +54,7 @@ fn are_references_changed<P: PageChange>(
 /// stay as it is.
 ///
 /// # Errors
-/// `Memory` where a growth is refused.
+/// `Memory` if a growth is refused.
 pub fn rewrite_sheet<P: PageChange>(
     alloc: Global,
     changes: &P,

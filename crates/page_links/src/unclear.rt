@@ -32,7 +32,7 @@ fn begins_number(text: &[u8]) -> bool
     }
 }
 
-/// Whether a text goes on behind an `&` as a character reference does.
+/// Whether a text goes on after an `&` as a character reference does.
 fn is_reference(text: &[u8]) -> bool
     ensures { result ≡ is_reference text.now }
 {
@@ -115,7 +115,7 @@ fn is_unread(alloc: Global, text: &[u8], others: &[u8]) -> Result<bool, Memory> 
 /// Whether it isn't known what a value says.
 ///
 /// # Errors
-/// `Memory` where a growth is refused.
+/// `Memory` if a growth is refused.
 pub(crate) fn is_unclear_value(alloc: Global, value: &[u8]) -> Result<bool, Memory> {
     if std::str::from_utf8(value).is_err() {
         return Ok(true);

@@ -40,7 +40,7 @@ impl Model for Digester {
 
 impl Digester {
     /// Takes a response for this address. Of the links of a page those are edges that
-    /// `rules` takes. The error is want of memory; later growth comes from `alloc`.
+    /// `rules` takes. Fails only if memory runs out; later growth comes from `alloc`.
     pub fn new(alloc: Global, at: &Address, rules: LinkRules) -> Result<Digester, AllocError>
         ensures fresh { IfOk result (λ d. HasTaken d None []) }
         ensures purpose { IfOk result (λ d. purpose_of d ≡ record { at = at.now; rules = rules }) }

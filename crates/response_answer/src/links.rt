@@ -114,7 +114,7 @@ fn is_silent(rules: LinkRules, scan: &Scan) -> bool
 }
 
 /// The edges of a page, from what a scan of its body found: those of the links that are taken, and none if the page asks that its links
-/// aren't followed and this is honoured. The error is want of memory.
+/// aren't followed and this is honoured. Fails only if memory runs out.
 pub(crate) fn page_edges(
     alloc: Global,
     at: &Address,
@@ -168,7 +168,7 @@ fn shown_from(
     Ok(edges)
 }
 
-/// The edges of a style sheet, from what a scan of it found: those of its references whose texts are taken. The error is want of memory.
+/// The edges of a style sheet, from what a scan of it found: those of its references whose texts are taken. Fails only if memory runs out.
 pub(crate) fn sheet_edges(
     alloc: Global,
     at: &Address,

@@ -13,9 +13,9 @@ use html_links::LinkRules;
 use response_reader::Response;
 use std::alloc::{AllocError, Global};
 
-/// What a response answers for the address that was asked: a redirect, a page with its links, or
-/// neither, with the body where the status is 200 to 299. Of the links of a page those
-/// are edges that `rules` takes. The error is want of memory.
+/// What a response answers for the address that was asked: a redirect, a page with its links, or neither, with the
+/// body if the status is 200 to 299. Of the links of a page those are edges that `rules` takes. Fails only if memory
+/// runs out.
 pub fn digest(
     alloc: Global,
     at: &Address,

@@ -40,7 +40,7 @@ line_says line skipped u h = absurd h
 line_says line (rule kind rest) u h = absurd h
 line_says line s u h = (u, h)
 
--- and nothing else, where it isn't a rule
+-- and nothing else, if it isn't a rule
 pub fields_say : (line : List ℕ) (s : Statement) → ¬ IsSkipped line → ((kind : RuleKind) (rest : List ℕ) → ¬ IsBehind line (rule_word kind) rest)
     → HasForm line s → IsForm (fields line) s
 fields_say line skipped n r h = absurd (n h.1)

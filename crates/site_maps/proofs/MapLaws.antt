@@ -12,7 +12,7 @@ use Rattle.site_maps.specs.Maps.{edges_below, answers_of, file_below, rules_of, 
 
 -- ---- lists
 
--- the last element and what stands before it are the list's own
+-- the last element and what is before it are the list's own
 pub snoc_same : {A : Type 0} (xs ys : List A) (x y : A) → xs ++ x ∷ [] ≡ ys ++ y ∷ [] → (xs ≡ ys) × (x ≡ y)
 snoc_same [] [] x y e = (refl, cc)
 snoc_same [] (b ∷ ys) x y e = absurd (no_nil ys y cc)

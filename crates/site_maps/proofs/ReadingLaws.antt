@@ -1,4 +1,4 @@
--- What is kept stands for the lines so far, once one more line is taken.
+-- What is kept represents the lines so far, once one more line is taken.
 use Rattle.std.proofs.Common.{◌≡◌, ◌≢◌, ℕ, ◌⊎◌, ◌++◌, Bool, true, false, List, [], ◌∷◌, Option, Some, None, Result, Ok, Err, refl, sym, ap, ◌∙◌, inl, inr, append_assoc, cond, IsTrue, IsSome, is_some}
 use Rattle.std.specs.Prelude.{codes, string_bytes}
 use Rattle.std.specs.List.{All}
@@ -45,7 +45,7 @@ finds_only {V} at key x h = only (bytes_eq at key) refl h
     only true e k = (bytes_eq-Decides at key).0 e
     only false e k = absurd cc
 
--- two lists of entries have no key in common where the second has none for the one of the first
+-- two lists of entries have no key in common if the second has none for the one of the first
 pub apart_from : {V : Type 0} (one more : List (List ℕ × V)) (key : List ℕ) (x : V) → one ≡ (key, x) ∷ [] → lookup (bytes_eq key) more ≡ None
     → (at : List ℕ) → IsSome (lookup (bytes_eq at) one) → ¬ IsSome (lookup (bytes_eq at) more)
 apart_from one more key x shape none at own there =
@@ -369,7 +369,7 @@ no_page r none p e = let k = sym none ∙ e in cc
 no_origin : (r : Reading) → r.open ≡ None → (p : OpenRobots) → r.open ≢ Some (Robots p)
 no_origin r none p e = let k = sym none ∙ e in cc
 
--- a moved, leaf or fault line is taken where its answer is kept
+-- a moved, leaf or fault line is taken if its answer is kept
 pub takes_answer : {U : Type 0} (old new : Reading) (r : Result U InputLineFault) (s : Statement) (address : List ℕ) (x : Outcome)
     → is_answer s ≡ true → answers_of (s ∷ []) ≡ (address, x) ∷ [] → All IsNamed (texts_of s)
     → Adds old address x r new
@@ -423,7 +423,7 @@ takes_fault old new r kind text address reads h =
 
 -- ---- page and edge lines
 
--- a page line that is taken is good, and what is kept stands for it
+-- a page line that is taken is good, and what is kept represents it
 pub takes_page : (old shut new : Reading) (above : List Statement) (status : ℕ) (text : List ℕ) (p : OpenPage) → TellsAbove old above → Closes old shut
     → read_address text ≡ Ok p.address → lookup (bytes_eq p.address) (answers_in old) ≡ None → p.status ≡ status → p.edges.items ≡ []
     → new.open ≡ Some (Page p) → new.answers.entries ≡ shut.answers.entries → new.rules.entries ≡ shut.rules.entries
@@ -454,7 +454,7 @@ page_claimed r above status text address f t reads h =
     let shape : answers_of (page status text ∷ []) ≡ (address, outcome.Page status []) ∷ [] = (let x = a.1 in cc) in
     claimed above (page status text) address (outcome.Page status []) f tt (All-cons IsNamed text [] a.0 (All-nil IsNamed)) shape (rw t.answers.stated h)
 
--- an edge line below its page is good, and what is kept stands for it
+-- an edge line below its page is good, and what is kept represents it
 pub takes_edge : (old new : Reading) (above : List Statement) (kind : EdgeKind) (text target : List ℕ) (p q : OpenPage)
     → TellsAbove old above → read_address text ≡ Ok target → old.open ≡ Some (Page p) → new.open ≡ Some (Page q) → q.address ≡ p.address → q.status ≡ p.status
     → q.edges.items ≡ p.edges.items ++ record { target = target; kind = kind } ∷ [] → new.answers.entries ≡ old.answers.entries → new.rules.entries ≡ old.rules.entries
@@ -526,7 +526,7 @@ states_closed text origin root is = record {
   rules = ap (λ o. (o, record { closed = true; rules = [] }) ∷ []) is;
 }
 
--- a robots line with rules below is good, and what is kept stands for it
+-- a robots line with rules below is good, and what is kept represents it
 pub takes_robots : (old shut new : Reading) (above : List Statement) (text : List ℕ) (r : OpenRobots) → TellsAbove old above → Closes old shut → IsNamed text
     → path_query_of (named text) ≡ codes "/" → origin_of (named text) ≡ r.origin → lookup (bytes_eq r.origin) (all_rules old) ≡ None → string_bytes r.file ≡ file_head
     → new.open ≡ Some (Robots r) → new.answers.entries ≡ shut.answers.entries → new.rules.entries ≡ shut.rules.entries
@@ -542,7 +542,7 @@ takes_robots old shut new above text r t closes named root names none bare is an
       },
     )
 
--- a robots line without rules below is good, and what is kept stands for it
+-- a robots line without rules below is good, and what is kept represents it
 pub takes_closed : (old new : Reading) (above : List Statement) (text origin : List ℕ) → TellsAbove old above → IsNamed text
     → path_query_of (named text) ≡ codes "/" → origin_of (named text) ≡ origin → lookup (bytes_eq origin) (all_rules old) ≡ None
     → new.open ≡ None → new.answers.entries ≡ answers_in old → new.rules.entries ≡ all_rules old ++ (origin, record { closed = true; rules = [] }) ∷ []
@@ -558,11 +558,11 @@ takes_closed old new above text origin t named root names none is answers rules 
       },
     )
 
--- an origin that is open stands above
+-- an origin that is open is above
 pub below_origin : (old : Reading) (above : List Statement) (r : OpenRobots) → TellsAbove old above → old.open ≡ Some (Robots r) → HasRobots above
 below_origin old above r t was = let h = t.rules.above_open r was in (h.higher, robots h.text, h.between, h.lines, (h.text, refl), h.ruling)
 
--- a rule line below its origin is good, and what is kept stands for it
+-- a rule line below its origin is good, and what is kept represents it
 pub takes_rule : (old new : Reading) (above : List Statement) (kind : RuleKind) (rest : List ℕ) (r q : OpenRobots)
     → TellsAbove old above → old.open ≡ Some (Robots r) → new.open ≡ Some (Robots q) → q.origin ≡ r.origin
     → string_bytes q.file ≡ string_bytes r.file ++ file_line kind rest → new.answers.entries ≡ old.answers.entries → new.rules.entries ≡ old.rules.entries
@@ -593,7 +593,7 @@ none_above : (IsHead : Statement → Type 0) (passes : Statement → Bool) → �
 none_above IsHead passes ([], head, between, e, is, all) = cc
 none_above IsHead passes (s ∷ above, head, between, e, is, all) = cc
 
--- nothing is kept, and it stands for no line
+-- nothing is kept, and it represents no line
 pub tells_nothing : (r : Reading) → r.open ≡ None → r.answers.entries ≡ [] → r.rules.entries ≡ [] → TellsAbove r []
 tells_nothing r none bare empty = record {
   answers = record {

@@ -52,7 +52,7 @@ rule_in_file = refl
 
 -- ---- a line says one thing
 
--- what fields say, where they have a form
+-- what fields say, if they have a form
 said_by : List (List ℕ) → Option Statement
 said_by (word ∷ text ∷ []) =
     if bytes_eq word (codes "link") then Some (edge Link text)

@@ -14,7 +14,7 @@ use Rattle.fetcher.specs.Sites.{SiteAnswers, GivesOutcome, unless_fault, without
 use Rattle.site_maps.specs.MapSites.{has_fault}
 use Rattle.site_maps.specs.Maps.{outcome_in_map}
 
--- of two tests that one is true neither is, where that is false
+-- of two tests that one is true neither is, if that is false
 or_parts : (a b : Bool) → (a || b) ≡ false → (a ≡ false) × (b ≡ false)
 or_parts true b h = absurd cc
 or_parts false b h = (refl, h)

@@ -11,7 +11,7 @@ use Rattle.site_inputs.specs.Fields.{fields}
 use Rattle.site_maps.specs.declared.rule_kind.RuleKind.{RuleKind}
 use Rattle.site_maps.specs.RuleLines.{rule_word}
 
--- what a line may say; an address is the text that stands there
+-- what a line may say; an address is the text that is there
 pub data Statement : Type 0 where
   -- nothing
   skipped : Statement
@@ -29,7 +29,7 @@ pub data Statement : Type 0 where
   robots : List ℕ → Statement
   -- nothing is allowed at the address's origin
   closed : List ℕ → Statement
-  -- the origin above has one more rule of this kind; this stands behind its word
+  -- the origin above has one more rule of this kind; this follows its word
   rule : RuleKind → List ℕ → Statement
 
 -- the value of three decimal digits; other texts have none
@@ -57,7 +57,7 @@ IsForm fs (robots text) = fs ≡ codes "robots" ∷ text ∷ []
 IsForm fs (closed text) = fs ≡ codes "robots" ∷ text ∷ codes "none" ∷ []
 IsForm fs (rule kind rest) = ⊥
 
--- the line is the word and this behind it: nothing, or a space and more
+-- the line is the word and this after it: nothing, or a space and more
 abbrev pub IsBehind : List ℕ → List ℕ → List ℕ → Type 0
 IsBehind line word rest = (line ≡ word ++ rest) × ((rest ≡ []) ⊎ (slice_index rest 0 ≡ 32))
 

@@ -18,7 +18,7 @@ use Rattle.site_inputs.specs.Names.{named, IsNamed}
 use Rattle.site_maps.specs.RuleLines.{file_head, file_line}
 use Rattle.site_maps.specs.Lines.{Statement, skipped, page, edge, moved, leaf, fault, robots, closed, rule, HasForm}
 
--- the lines of a text: what stands between its line feeds
+-- the lines of a text: what is between its line feeds
 abbrev pub text_lines_of : List ℕ → List (List ℕ)
 text_lines_of text = slice_split (λ b. b == 10) text
 
@@ -98,7 +98,7 @@ HasPage said = HasAbove IsPage is_between said
 abbrev pub HasRobots : List Statement → Type 0
 HasRobots said = HasAbove IsRobots is_ruling said
 
--- the line may stand below these: an edge line has its page above it, and a rule line its origin
+-- the line may be below these: an edge line has its page above it, and a rule line its origin
 abbrev pub IsInPlace : List Statement → Statement → Type 0
 IsInPlace above (edge kind text) = HasPage above
 IsInPlace above (rule kind rest) = HasRobots above
@@ -171,7 +171,7 @@ FirstBad lines n IsBad =
     (k : ℕ) × (n ≡ k + 1) × (line : List ℕ) × (slice_get lines k ≡ Some line)
     × (above : List Statement) × IsMap (take k lines) above × IsBad above line
 
--- the fault of a text: its first bad line, and what is wrong with it; or memory ran out, over a line below a map, or behind the last
+-- the fault of a text: its first bad line, and what is wrong with it; or memory ran out, over a line below a map, or after the last
 abbrev pub IsFault : List ℕ → InputFault → Type 0
 IsFault text (Line n) = FirstBad (text_lines_of text) n IsBadLine
 IsFault text (Address n) = FirstBad (text_lines_of text) n IsBadAddress

@@ -12,6 +12,6 @@ rule_word Disallow = codes "disallow"
 abbrev pub file_head : List ℕ
 file_head = codes "user-agent: *" ++ 10 ∷ []
 
--- a rule's line with a `:` behind its word, of which the rest is what follows it
+-- a rule's line with a `:` after its word, of which the rest is what follows it
 abbrev pub file_line : RuleKind → List ℕ → List ℕ
 file_line kind rest = rule_word kind ++ codes ":" ++ rest ++ 10 ∷ []

@@ -1,8 +1,8 @@
-//! Fields of a map's line, which stand between single spaces.
+//! Fields of a map's line, which are between single spaces.
 ghost use Rattle.std.specs.Prelude.{◌≡◌, ℕ, List, MatchOption};
 ghost use Rattle.site_maps.specs.Lines.{three_digits, IsBehind};
 
-// What stands behind the word that a text begins with: nothing, or a space and more.
+// What follows the word that a text begins with: nothing, or a space and more.
 pub(crate) fn behind_word<'a>(text: &'a str, word: &str) -> Option<&'a str>
     ensures { MatchOption result ((rest : List ℕ) → ¬ IsBehind text.now word.now rest) (λ rest. IsBehind text.now word.now rest.now) }
 {

@@ -1,6 +1,6 @@
 //! Sites that are read from maps. Its one idea: a map says one thing of each address and of each origin, or its first bad
 //! line is named. The meaning is written in `specs/`: `Lines` what a line says, `Maps` what the lines say together and
-//! which are good, `MapSites` the site. Its tests stand in `site_tests`.
+//! which are good, `MapSites` the site. Its tests are in `site_tests`.
 #![tactic(auto)]
 
 mod field;

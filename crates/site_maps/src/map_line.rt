@@ -23,7 +23,7 @@ pub(crate) enum MapLine<'a> {
     Robots(&'a str),
     /// Nothing is allowed at the address's origin.
     Closed(&'a str),
-    /// The origin above has one more rule; this stands behind its word.
+    /// The origin above has one more rule; this follows its word.
     Rule(RuleKind, &'a str),
 }
 
@@ -35,7 +35,7 @@ impl<'a> MapLine<'a> {
     ghost use Rattle.site_inputs.specs.Fields.{fields};
     ghost use Rattle.site_maps.specs.inner.Said.{said};
 
-    /// What a line says, or none where it has no form.
+    /// What a line says, or none if it has no form.
     pub(crate) fn of(line: &'a str) -> Option<MapLine<'a>>
         ensures { MatchOption result ((s : Statement) → ¬ HasForm line.now s) (λ s. HasForm line.now (said s)) }
     {

@@ -69,7 +69,7 @@ impl MapSite {
         for line in text.split(|byte| *byte == b'\n') {
             number += 1;
             if let Err(fault) = reading.read_line(&mut known, line) {
-                // By a call, since what an exit lets go is proved anew at each exit.
+                // By a call, since what an exit drops is proved anew at each exit.
                 drop(reading);
                 drop(known);
                 return Err(fault.at(number));
@@ -101,7 +101,7 @@ impl MapSite {
         })
     }
 
-    /// An equal site, which shares the map of this one, with the same asks, or an error where memory
+    /// An equal site, which shares the map of this one, with the same asks, or an error if memory
     /// ran out.
     pub fn try_clone(&self) -> Result<MapSite, AllocError>
         ensures { IfOk result (λ copy. copy ≡ self.now) }
@@ -113,7 +113,7 @@ impl MapSite {
         })
     }
 
-    /// The site as a steady one, with the same asks; refused, and handed back as it was, where the
+    /// The site as a steady one, with the same asks; refused, and handed back as it was, if the
     /// map has a fault line. Takes no memory.
     pub fn steady(self) -> Result<SteadyMap, MapSite>
         ensures taken { IfOk result (λ s. (s ≡ self) × (has_fault self.answers ≡ false)) }
@@ -176,16 +176,16 @@ impl Fetcher for MapSite {
 
     ghost log = { λ m. m.asks };
 
-    /// Asks for the page of an address. The answer is what the map says of it, with a body of
-    /// no bytes, which is HTML if it is a page; the ask is logged first, and the map stays what it is.
+    /// Requests the page of an address. The answer is what the map says of it, with a body of no bytes, which is HTML
+    /// if it is a page; the request is logged first, and the map stays what it is.
     fn ask(&mut self, at: &Address) -> Result<Answer<Body>, AllocError> {
         self.asks.push(Ask::Page(at.try_clone()?))?;
         let outcome = self.outcome(at)?;
         Ok(Answer::bare(self.alloc, outcome))
     }
 
-    /// Asks for the robots rules of an origin. They are those that the map states, and allow
-    /// everything where it states none; the ask is logged first, and the map stays what it is.
+    /// Requests the robots rules of an origin. They are those that the map states, and allow everything if it states
+    /// none; the request is logged first, and the map stays what it is.
     fn ask_robots(&mut self, of: &Origin) -> Result<RuleSet, AllocError> {
         self.asks.push(Ask::Rules(of.try_clone()?))?;
         self.rule_set(of)

@@ -1,4 +1,4 @@
-//! The rule lines of a map as the robots file that they stand for (RFC 9309, section 2.2).
+//! The rule lines of a map as the robots file that they represent (RFC 9309, section 2.2).
 ghost use Rattle.std.specs.Prelude.{◌≡◌, ◌++◌, IfOk, OnOk, string_bytes};
 ghost use Rattle.robots_rules.specs.Groups.{rules_in};
 ghost use Rattle.site_maps.specs.RuleLines.{file_head, file_line};
@@ -25,7 +25,7 @@ impl OpenRobots {
         Ok(OpenRobots { origin, file })
     }
 
-    // Adds a rule line, of which `rest` stands behind its word.
+    // Adds a rule line, of which `rest` follows its word.
     pub(crate) fn add(&mut self, kind: RuleKind, rest: &str) -> Result<(), AllocError>
         ensures origin { self.new.origin ≡ self.old.origin }
         ensures file { OnOk result (string_bytes self.new.file ≡ string_bytes self.old.file ++ file_line kind rest.now) }

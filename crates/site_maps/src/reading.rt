@@ -216,7 +216,7 @@ impl Reading {
         Ok(())
     }
 
-    // Takes a robots line of an origin where nothing is allowed.
+    // Takes a robots line of an origin of which nothing is allowed.
     fn add_closed(&mut self, text: &str) -> Result<(), InputLineFault>
         ensures { Takes self.old (closed text.now) result self.new }
     {
@@ -258,7 +258,7 @@ impl Reading {
         }
     }
 
-    /// Takes one more line; the addresses that it names are read where no line above named them. An error says what is
+    /// Takes one more line; the addresses that it names are read if no line above named them. An error says what is
     /// wrong with it; then nothing more may be read.
     pub(crate) fn read_line<'a>(
         &mut self,

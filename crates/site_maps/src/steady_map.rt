@@ -38,7 +38,7 @@ impl SteadyMap {
         SteadyMap { map }
     }
 
-    /// An equal site, with the same asks, or an error where memory ran out.
+    /// An equal site, with the same asks, or an error if memory ran out.
     pub fn try_clone(&self) -> Result<SteadyMap, AllocError>
         ensures { IfOk result (λ copy. copy ≡ self.now) }
     {
@@ -67,12 +67,12 @@ impl Fetcher for SteadyMap {
 
     ghost log = { λ m. m.asks };
 
-    /// Asks for the page of an address, as of the map.
+    /// Requests the page of an address, as of the map.
     fn ask(&mut self, at: &Address) -> Result<Answer<Body>, AllocError> {
         self.map.ask(at)
     }
 
-    /// Asks for the robots rules of an origin, as of the map.
+    /// Requests the robots rules of an origin, as of the map.
     fn ask_robots(&mut self, of: &Origin) -> Result<RuleSet, AllocError> {
         self.map.ask_robots(of)
     }

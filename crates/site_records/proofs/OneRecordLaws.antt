@@ -1,4 +1,4 @@
--- A record that is written is one of just the entries of its notes: whatever it is read as is these.
+-- A record that is written is one of exactly the entries of its notes: whatever it is read as is these.
 use Rattle.std.proofs.Common.{◌≡◌, ◌==◌, ℕ, true, List, [], ◌∷◌, ◌++◌, refl, sym, ap, subst, arith}
 use Rattle.std.specs.Prelude.{All, flat_map, map, get_or}
 use Rattle.std.proofs.lemmas.List.{append_cancel_left}

@@ -109,7 +109,7 @@ notes_follow links text above (n ∷ notes) rest are short fresh front =
     subst (λ l. IsFront Second links text (map (note_entry links) l) rest) (append_assoc above (n ∷ []) notes)
     (notes_follow links text (above ++ n ∷ []) notes rest (All-tail IsNote n notes are) (All-tail (λ n. has_short_heads n ≡ true) n notes short) fresh.1 pushed)
 
--- what is written is a record of just the notes that it is written of
+-- what is written is a record of exactly the notes that it is written of
 pub written_record_reads_back : (links : LinkRules) (notes : List Noted) → All IsNote (written_notes notes) → IsRecord links (record_text notes) (record_entries links notes)
 written_record_reads_back links notes are =
     let text = flat_map note_text (written_notes notes) in

@@ -1,4 +1,4 @@
--- Notes of a record that is read: they say just what its entries state.
+-- Notes of a record that is read: they say exactly what its entries state.
 use Rattle.std.specs.Prelude.{◌≡◌, Bool, true, false, List, [], map}
 use Rattle.answer_notes.specs.declared.noted.Noted.{Noted}
 use Rattle.site_records.specs.Entries.{Entry}

@@ -56,7 +56,7 @@ AreMarks nfa text at next here = (other : List ℕ) (place : ℕ) → IsAlike nf
 unfoldable pub begins_from : Nfa → List ℕ → ℕ → Bool
 begins_from nfa text at = is_some (first_between (run nfa text (length text) nfa.start) at (length text))
 
--- the automaton finds a match where the pattern has one, in each text of bytes
+-- the automaton finds a match if the pattern has one, in each text of bytes
 abbrev pub Finds : Nfa → Re → Type 0
 Finds nfa re = (text : List ℕ) → All (λ byte. byte < 256) text → (at : ℕ) → accepts nfa text at nfa.start ≡ is_some (attempt text re accept at)
 

@@ -14,7 +14,7 @@ needle_lists needles = map (λ needle. needle.items) needles
 abbrev pub HasNeedle : List (List ℕ) → List ℕ → Type 0
 HasNeedle needles text = (n k : ℕ) × (n < length needles) × OccursAt text (needle_at needles n) k
 
--- where the automaton finds a match, the text has one of the needles
+-- if the automaton finds a match, the text has one of the needles
 abbrev pub Needs : Nfa → List (List ℕ) → Type 0
 Needs nfa needles = (text : List ℕ) → All (λ byte. byte < 256) text → (at : ℕ) → accepts nfa text at nfa.start ≡ true → HasNeedle needles text
 

@@ -10,7 +10,7 @@ use Rattle.address.specs.Address.{host_of}
 abbrev pub starts_on : List ℕ → List (List ℕ) → List (List ℕ)
 starts_on host starts = filter (λ start. bytes_eq host (host_of start)) starts
 
--- the set has just the starts
+-- the set has exactly the starts
 abbrev pub Finds : {S : Type 0} → List (List ℕ) → HashSet (List ℕ) S → Type 0
 Finds starts set = (address : List ℕ) → contains bytes_eq set address ≡ list_any (λ one. bytes_eq address one) starts
 

@@ -11,7 +11,7 @@ use Rattle.frontier_core.specs.declared.counters.Counters.{Counters}
 abbrev pub is_left : Progress → Bool
 is_left q = not (is_done q)
 
--- the rules are asked for, and not known
+-- the rules are requested, and not known
 abbrev pub is_unknown : OriginRules → Bool
 is_unknown rules = not (is_known rules)
 

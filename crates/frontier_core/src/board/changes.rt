@@ -40,7 +40,7 @@ impl Board {
         );
     }
 
-    /// The address of that number is asked for by the worker.
+    /// The address of that number is requested by the worker.
     pub fn give_out(&mut self, i: usize, worker: u32)
         requires { i < length self.old.entries }
         ensures { (old : Held) × (lookup self.old.entries (key_numbered self.old.entries i) ≡ Some old)
@@ -49,7 +49,7 @@ impl Board {
         self.advance(i, Progress::out(worker));
     }
 
-    /// The address of that number is given up, and the work stops where it hasn't yet.
+    /// The address of that number is given up, and the work stops if it hasn't yet.
     pub fn abandon(&mut self, i: usize, cause: Cause)
         requires { i < length self.old.entries }
         ensures { (old : Held) × (lookup self.old.entries (key_numbered self.old.entries i) ≡ Some old)
@@ -59,7 +59,7 @@ impl Board {
         self.halt(cause);
     }
 
-    /// The address of that number is asked for by nobody any more.
+    /// Nobody requests the address of that number any more.
     fn give_up(&mut self, i: usize)
         requires { i < length self.old.entries }
         ensures { (old : Held) × (lookup self.old.entries (key_numbered self.old.entries i) ≡ Some old)
@@ -68,7 +68,7 @@ impl Board {
         self.advance(i, Progress::given_up());
     }
 
-    /// The work stops, where nothing stopped it yet.
+    /// The work stops, if nothing stopped it yet.
     pub fn halt(&mut self, cause: Cause)
         ensures { self.new ≡ halted self.old cause }
     {
@@ -84,7 +84,7 @@ impl Board {
         self.advance(i, Progress::answered(outcome));
     }
 
-    /// The robots rules of an origin are asked for by the worker. The error is want of memory, and changes nothing.
+    /// The worker requests the robots rules of an origin. Fails only if memory runs out, and then changes nothing.
     pub fn ask_rules(&mut self, origin: &Origin, worker: u32) -> Result<(), AllocError>
         requires { lookup self.old.origins origin.now ≡ None }
         ensures ok { OnOk result (self.new ≡ with_origin self.old origin.now (Asked (Worker worker))) }
@@ -94,14 +94,14 @@ impl Board {
         let robots = Robots::asked(worker);
         let share = robots.share();
         self.origins.insert(key, robots)?;
-        // Asked for what its clause says behind an insertion, whose own says nothing of it: the length fits, and so does what is
-        // counted in the table.
+        // Called for what its clause says after an insertion, whose own clause says nothing of it: the length fits, and so does
+        // what is counted in the table.
         let _len = self.origins.len();
         self.counters.exchange(Share::NONE, share);
         Ok(())
     }
 
-    /// The robots rules of the origin are given up, and the work stops where it hasn't yet.
+    /// The robots rules of the origin are given up, and the work stops if it hasn't yet.
     pub fn abandon_rules(&mut self, origin: &Origin, cause: Cause)
         requires { IsSome (lookup self.old.origins origin.now) }
         ensures { self.new ≡ with_origin (halted self.old cause) origin.now (Asked Nobody) }
@@ -112,7 +112,7 @@ impl Board {
         self.halt(cause);
     }
 
-    /// The robots rules of the origin at that place are asked for by nobody any more.
+    /// Nobody requests the robots rules of the origin at that place any more.
     fn give_up_rules(&mut self, i: usize)
         requires { i < length self.old.origins }
         ensures { self.new ≡ with_origin self.old (key_numbered self.old.origins i) (Asked Nobody) }
@@ -148,7 +148,7 @@ impl Board {
         }
     }
 
-    /// The address of that number, where it is parked and of the origin, waits from now on, or is refused.
+    /// The address of that number, if it is parked and of the origin, waits from now on, or is refused.
     fn settle(&mut self, plan: &Plan, origin: &Origin, rules: &RuleSet, i: usize)
         requires { i < length self.old.entries }
         ensures { (old : Held) × (lookup self.old.entries (key_numbered self.old.entries i) ≡ Some old)

@@ -60,7 +60,7 @@ impl Board {
         self.origins.get_index_of(origin)
     }
 
-    /// What is kept of an origin's robots rules, where they were asked for.
+    /// What is kept of an origin's robots rules, if they were requested.
     fn robots_of(&self, origin: &Origin) -> Option<&Robots>
         ensures { MatchOption result (lookup self.now.origins origin.now ≡ None) (λ robots. lookup self.now.origins origin.now ≡ Some robots.now) }
     {
@@ -68,14 +68,14 @@ impl Board {
         Some(self.robots_at(i))
     }
 
-    /// The robots rules of an origin, where they are known.
+    /// The robots rules of an origin, if they are known.
     pub fn rules_of(&self, origin: &Origin) -> Option<&RuleSet>
         ensures { MatchOption result (known_rules_in (lookup self.now.origins origin.now) ≡ None) (λ rules. known_rules_in (lookup self.now.origins origin.now) ≡ Some rules.now) }
     {
         self.robots_of(origin)?.rules()
     }
 
-    /// The outcome of an address, where it is recorded.
+    /// The outcome of an address, if it is recorded.
     pub fn outcome_of(&self, address: &Address) -> Option<&Outcome>
         ensures { MatchOption result (slot_outcome (lookup self.now.entries address.now) ≡ None) (λ x. slot_outcome (lookup self.now.entries address.now) ≡ Some x.now) }
     {
@@ -83,7 +83,7 @@ impl Board {
         self.progress_at(i).outcome()
     }
 
-    /// Whether an address was asked for, and given up.
+    /// Whether an address was requested and given up.
     pub fn is_given_up(&self, address: &Address) -> bool
         ensures { IsTrue result ↔ IsGivenUp self.now address.now }
     {
@@ -93,7 +93,7 @@ impl Board {
         }
     }
 
-    /// Whether an origin's robots rules were asked for, and given up.
+    /// Whether an origin's robots rules were requested and given up.
     pub fn are_rules_given_up(&self, origin: &Origin) -> bool
         ensures { IsTrue result ↔ AreRulesGivenUp self.now origin.now }
     {
@@ -103,7 +103,7 @@ impl Board {
         }
     }
 
-    /// Whether an edge of the page to that address is followed where the sum after it is this, and leads out of the table.
+    /// Whether an edge of the page to that address is followed if the sum after it is this, and leads out of the table.
     pub(super) fn leads_out(
         &self,
         plan: &Plan,
@@ -175,7 +175,7 @@ impl Board {
         pages < most && self.robots_out(self.agenda.origin(i)) < most - pages
     }
 
-    /// The number of a parked address whose origin's robots rules may be asked for: nobody asked for them, and the origin
+    /// The number of a parked address whose origin's robots rules may be requested: nobody requested them, and the origin
     /// has room for a permit.
     pub fn find_rules(&self, plan: &Plan) -> Option<usize>
         ensures found { IfSome result (λ i. (i < length self.now.entries)
@@ -223,7 +223,7 @@ impl Board {
         }
     }
 
-    /// At how many addresses and origins something is left to do, but for those that are out to workers.
+    /// At how many addresses and origins something is left to do, except those that are out to workers.
     pub fn waiting(&self) -> usize
         ensures { result ≡ how_many_wait self.now }
     {
@@ -247,7 +247,7 @@ impl Board {
         *self.address_at(number) == *address && self.progress_at(number).is_out_to(worker)
     }
 
-    /// Whether that worker asks for the robots rules of this origin.
+    /// Whether that worker requests the robots rules of this origin.
     pub fn is_asked_by(&self, worker: u32, origin: &Origin) -> bool
         ensures { IsTrue result ↔ IsAskedBy self.now worker origin.now }
     {
@@ -257,8 +257,8 @@ impl Board {
         }
     }
 
-    /// How an address stands that is first found: it waits, or is parked or refused by what is known of its origin's robots
-    /// rules (RFC 9309, section 2.2.2). A start waits, and each address where robots are off.
+    /// The progress of an address that is first found: it waits, or is parked or refused by what is known of its origin's
+    /// robots rules (RFC 9309, section 2.2.2). A start waits, and each address if robots are off.
     pub(super) fn arrival(&self, plan: &Plan, origin: &Origin, address: &Address) -> Progress
         requires { origin.now ≡ origin_of address.now }
         ensures { result ≡ arrival (policy plan.now) self.now address.now }

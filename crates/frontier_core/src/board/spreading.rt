@@ -57,7 +57,7 @@ impl Board {
         }
     }
 
-    /// The start waits at 0 from now on, where it isn't held yet.
+    /// The start waits at 0 from now on, if it isn't held yet.
     pub(super) fn hold_start(&mut self, max_urls: u32, start: &Address) -> Result<(), AllocError>
         requires few { length self.old.entries < max_urls }
         requires waits { (held : Slot) → lookup self.old.entries start.now ≡ Some held → held ≡ slot 0 Waiting }
@@ -87,7 +87,7 @@ impl Board {
     }
 
     /// The target of edge k of the page at place `at`, which isn't held, is held from now on, at this depth. Its room is made
-    /// first, in the labels before all: where as many are held as the plan allows, they answer `Full`.
+    /// first, in the labels before all: if as many are held as the plan allows, they answer `Full`.
     fn discover(&mut self, plan: &Plan, at: usize, k: usize, depth: u32) -> Result<(), SpreadFault>
         requires place { at < length self.old.entries }
         requires edge { k < length (edges_at self.old (key_numbered self.old.entries at)) }

@@ -39,11 +39,11 @@ pub record AreLeast (names least : List (List ℕ)) : Type 0 where
   pub count : length least ≡ length names
   pub low : (m j : ℕ) → m < length names → length names ≤ m + 1 + j → j < length names → is_lt (slice_cmp nat_cmp (slice_index_or names j []) (slice_index_or least m [])) ≡ false
 
--- the name stands before the least one behind this place
+-- the name orders before the least one after this place
 abbrev pub IsPast : List (List ℕ) → ℕ → List ℕ → Type 0
 IsPast least i name = i + 1 < length least → is_lt (slice_cmp nat_cmp name (slice_index_or least (length least - (i + 2)) [])) ≡ true
 
--- a page at this place was given this name: the entries are then those with its own among them, or as before where no
--- page behind asks for the name
+-- a page at this place was given this name: the entries are then those with its own among them, or as before if no
+-- page after it may get the name
 abbrev pub IsNoted : List (List ℕ) → ℕ → List ℕ → (List ℕ → Option ℕ) → (List ℕ → Option ℕ) → (List ℕ → Option ℕ) → Type 0
 IsNoted least i name old noted new = ((q : List ℕ) → new q ≡ noted q) ⊎ (IsPast least i name × ((q : List ℕ) → new q ≡ old q))

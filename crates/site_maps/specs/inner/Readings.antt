@@ -1,4 +1,4 @@
--- A map in mid-read: what is kept, and the lines that it stands for.
+-- A map in mid-read: what is kept, and the lines that it represents.
 use Rattle.std.specs.Prelude.{◌≡◌, ℕ, ◌⊎◌, ◌++◌, List, [], ◌∷◌, Option, Some, None, Result, All, IsSome, IsTrue, MatchResult, string_bytes}
 use Rattle.std.specs.Str.{bytes_eq}
 use Rattle.std.specs.Map.{lookup}
@@ -52,7 +52,7 @@ pub record IsFresh (r : Reading) : Type 0 where
   pub page : IsFreshPage r
   pub origin : IsFreshOrigin r
 
--- ---- the lines that it stands for
+-- ---- the lines that it represents
 
 -- a page is open
 abbrev pub IsPageOpen : Reading → Type 0
@@ -86,7 +86,7 @@ pub record TellsRules (r : Reading) (above : List Statement) : Type 0 where
   pub open_below : HasRobots above → IsOriginOpen r
   pub fresh : IsFreshOrigin r
 
--- what is kept stands for these lines
+-- what is kept represents these lines
 pub record TellsAbove (r : Reading) (above : List Statement) : Type 0 where
   pub answers : TellsAnswers r above
   pub rules : TellsRules r above

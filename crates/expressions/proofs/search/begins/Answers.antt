@@ -1,4 +1,4 @@
--- The flag of the first state tells.
+-- The flag of the first state decides.
 use Rattle.expressions.proofs.Accepting.{begins-here}
 use Rattle.expressions.proofs.search.begins.Goals as goal
 

@@ -1,4 +1,4 @@
--- Where a match begins at a place, one begins at the first or later; where none does, the flags go on.
+-- If a match begins at a place, one begins at the first or later; if none does, the flags go on.
 use Rattle.std.proofs.Common.{◌≡◌, ◌+◌, ◌∙◌, ◌-◌, sym, arith}
 use Rattle.expressions.proofs.Accepting.{begins-past, begins-first}
 use Rattle.expressions.proofs.Tables.{marks_here}

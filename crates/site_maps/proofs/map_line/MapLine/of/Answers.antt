@@ -1,4 +1,4 @@
--- What the fields say, the line says, where it isn't a rule.
+-- What the fields say, the line says, if it isn't a rule.
 use Rattle.std.proofs.Common.{◌∙◌, sym, lit<}
 use Rattle.site_maps.proofs.FormLaws.{line_form, rule_form, not_skipped}
 use Rattle.site_maps.proofs.map_line.MapLine.of.Goals as goal

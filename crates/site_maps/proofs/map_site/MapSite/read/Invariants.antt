@@ -1,4 +1,4 @@
--- The lines so far are a map, and what is kept stands for what they say.
+-- The lines so far are a map, and what is kept represents what they say.
 use Rattle.std.proofs.Common.{◌≡◌, List, length, map}
 use Rattle.site_maps.specs.Lines.{Statement}
 use Rattle.site_maps.specs.Maps.{IsMap}

@@ -1,4 +1,4 @@
--- What the open page or origin has goes behind the others.
+-- What the open page or origin has goes after the others.
 use Rattle.std.proofs.Common.{◌++◌, ◌∙◌, sym, ap}
 use Rattle.std.specs.Prelude.{string_bytes}
 use Rattle.std.specs.Str.{bytes_eq}
