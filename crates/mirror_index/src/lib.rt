@@ -5,7 +5,7 @@
 //! ```
 //! index.add(alloc, Entry::new(address, name, size, digest, head))?; // in the order of the addresses
 //! write_index(alloc, &mut file, &index)?;
-//! let index = MirrorIndex::read(alloc, bytes)?;
+//! let index = read_index(alloc, bytes)?;
 //! let entry = index.entry(&address);
 //! ```
 #![tactic(auto)]
