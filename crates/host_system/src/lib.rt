@@ -7,6 +7,7 @@ mod cookie_file;
 mod disk;
 mod early_run;
 mod index_run;
+mod journal;
 mod network;
 mod output;
 mod part_threads;

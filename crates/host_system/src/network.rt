@@ -2,13 +2,14 @@
 use crate::asking::Asking;
 use crate::disk::{Disk, Saved};
 use crate::early_run::EarlyRun;
-use crate::index_run::IndexRun;
+use crate::index_run::{BeginFault, IndexRun};
 use crate::part_threads::PartThreads;
 use crate::parts_asking::PartsAsking;
 use crate::shared_failures::SharedFailures;
 use early_names::EarlyRules;
 use live_system::{FetcherSettings, HoldFault, System};
 use local_tree::DiskFolder;
+use options::Order;
 use part_keeper::{Part, PartsDir};
 use progress::Progress;
 use record_journal::{HoldFault as Held, Journaled, Pen, SavedFile, Saving};
@@ -36,7 +37,7 @@ pub struct Network<'a, R: Net + Wait + Files + Clock + Eprint> {
     crew: &'a PartThreads<'a, R>,
     parts: &'a PartsDir<R::File>,
     early: &'a EarlyRun,
-    index: &'a IndexRun,
+    index: &'a IndexRun<R::File>,
     failures: &'a SharedFailures,
     jar: Option<Jar>,
 }
@@ -58,7 +59,7 @@ impl<'a, R: Net + Wait + Files + Clock + Eprint> Network<'a, R> {
         crew: &'a PartThreads<'a, R>,
         parts: &'a PartsDir<R::File>,
         early: &'a EarlyRun,
-        index: &'a IndexRun,
+        index: &'a IndexRun<R::File>,
         failures: &'a SharedFailures,
         jar: Option<Jar>,
     ) -> Network<'a, R> {
@@ -203,8 +204,20 @@ where
         self.early.begin(self.rt, rules)
     }
 
-    fn begin_index(&self, path: &str, is_asked: bool) -> Result<(), AllocError> {
-        self.index.begin(self.rt, path, is_asked)
+    fn begin_index(&self, order: &Order) -> Result<(), HoldFault> {
+        match self.index.begin(self.rt, self.failures, order) {
+            Ok(()) => Ok(()),
+            Err(BeginFault::Unfit) => Err(HoldFault::Refused),
+            Err(BeginFault::Memory) => Err(HoldFault::Memory),
+        }
+    }
+
+    fn end_index(&self, is_whole: bool) {
+        let own = self.parts.path(self.rt);
+        if let Ok(own) = own {
+            self.index
+                .end(self.rt, self.failures, own.as_str(), is_whole);
+        }
     }
 
     fn fetcher(&self, settings: FetcherSettings) -> Result<PartsAsking<'a, R>, AllocError> {

@@ -14,7 +14,7 @@ use std::net::Net;
 use std::sync::{Arc, Wait};
 use std::time::Clock;
 use streams::{Close, Lock};
-use tcp_fetcher::PartsOverTcp;
+use tcp_fetcher::{PageNote, PartsOverTcp};
 
 /// Asks over TCP, has bodies kept in parts, of which it names those that may be named early, shows on the terminal what results,
 /// and keeps why a connection was lost.
@@ -28,7 +28,7 @@ where
     pub(crate) failures: &'a SharedFailures,
     pub(crate) parts: &'a PartsDir<R::File>,
     pub(crate) early: &'a EarlyRun,
-    pub(crate) index: &'a IndexRun,
+    pub(crate) index: &'a IndexRun<R::File>,
     pub(crate) rules: Option<Arc<EarlyRules>>,
     // None before a page was named.
     pub(crate) folder: Option<DiskFolder<'a, R>>,
@@ -71,7 +71,10 @@ where
         let Ok(name) = rules.name_of(self.alloc, part.kind, at) else {
             return None;
         };
-        if is_early(name.as_str()) && self.early.claim(self.rt, name.as_str()) {
+        if !is_early(name.as_str()) || !self.index.may_name(self.rt, at, name.as_str()) {
+            return None;
+        }
+        if self.early.claim(self.rt, name.as_str()) {
             Some(name)
         } else {
             None
@@ -111,18 +114,21 @@ where
         is_named
     }
 
-    // A page's part, which has its name from then on if nothing is in its way.
-    fn named(&mut self, at: &Address, part: Part) -> Part
+    // A page's part, which has its name from then on if nothing is in its way, and what was noted of the page.
+    fn named(&mut self, at: &Address, part: Part, note: Option<PageNote>) -> Part
         ensures kind { result.kind ≡ part.kind }
         ensures len { result.len ≡ part.len }
         ensures inner { self.new.inner ≡ self.old.inner }
     {
         let Some(name) = self.claim(at, &part) else {
+            self.note_kept(note, None);
             return part;
         };
         if !self.give_name(name.as_str(), &part) {
+            self.note_kept(note, None);
             return part;
         }
+        self.note_kept(note, Some(name.as_str()));
         Part {
             standing: Standing::Named,
             ..part
@@ -136,11 +142,18 @@ where
         }
     }
 
-    // Notes a page for the index, if one is kept and its body is. If there is no memory for it, the next run requests it without a condition.
-    fn note_kept(&self, at: &Address, answer: &Answer<Part>) {
-        if let Ok(Some(note)) = self.inner.note(at, answer) {
-            self.index.note(self.rt, note);
-        }
+    // What is noted of a page and its answer, the last one. If there is no memory for it, the next run requests the page, too.
+    fn note_of(&self, at: &Address, answer: &Answer<Part>) -> Option<PageNote> {
+        self.inner.note(at, answer).unwrap_or(None)
+    }
+
+    // Notes a page that has this name early, if it has one.
+    fn note_kept(&self, note: Option<PageNote>, name: Option<&str>) {
+        let (Some(note), Ok(own)) = (note, self.parts.path(self.rt)) else {
+            return;
+        };
+        self.index
+            .note(self.rt, self.failures, own.as_str(), note, name);
     }
 
     // Keeps that the last connection was lost, which was to request this origin's robots file.
@@ -172,9 +185,9 @@ where
     fn ask(&mut self, at: &Address) -> Result<Answer<Part>, AllocError> {
         let answer = self.inner.ask(at)?;
         self.note_page(at);
-        self.note_kept(at, &answer);
+        let note = self.note_of(at, &answer);
         let Answer { outcome, body } = answer;
-        let body = self.named(at, body);
+        let body = self.named(at, body, note);
         Ok(Answer { outcome, body })
     }
 

@@ -17,5 +17,6 @@ mod line;
 mod reading;
 
 pub use crate::entry::{Entry, KeptHead, MAX_LINE, digest_of};
+pub use crate::line::{entry_line, read_line};
 pub use crate::index::{MAX_ENTRIES, MirrorIndex};
 pub use crate::reading::{IndexFault, MAX_INDEX, WriteFault, read_index, write_index};

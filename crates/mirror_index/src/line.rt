@@ -90,7 +90,7 @@ fn check_of(alloc: Global, text: &[u8]) -> Result<Vec<u8>, AllocError>
 }
 
 /// The line of an entry, without its end.
-pub(crate) fn entry_line(alloc: Global, entry: &Entry) -> Result<Vec<u8>, AllocError>
+pub fn entry_line(alloc: Global, entry: &Entry) -> Result<Vec<u8>, AllocError>
     ensures line { IfOk result (λ line. line.items ≡ entry_line entry.now) }
     ensures parts { OnOk result (HasParts entry.now) }
 {
@@ -241,7 +241,7 @@ fn if_own(alloc: Global, line: &[u8], entry: Entry) -> Result<Option<Entry>, All
 }
 
 /// The entry whose line this is, if it is an entry's.
-pub(crate) fn read_line(alloc: Global, line: &[u8]) -> Result<Option<Entry>, AllocError>
+pub fn read_line(alloc: Global, line: &[u8]) -> Result<Option<Entry>, AllocError>
     ensures is { IfOk result (λ entry. IfSome entry (λ e. line.now ≡ entry_line e)) }
     ensures back { IfOk result (λ entry. (e : Entry) → IsEntry e → line.now ≡ entry_line e → entry ≡ Some e) }
 {

@@ -11,6 +11,7 @@ ghost use Rattle.tcp_fetcher.specs.PartsFetching.{MayAnswerIn, MayRuleIn, PartsS
 use crate::earlier::{Earlier, PageNote};
 use crate::over_tcp::OverTcp;
 use address::{Address, Origin};
+use answer_notes::Telling;
 use body_digests::Digesting;
 use earlier_pages::EarlierPage;
 use early_names::EarlyRules;
