@@ -42,6 +42,8 @@ struct Begun {
     // Whether bodies are kept beside files whose links change.
     backs_up: bool,
     earlier: Arc<Earlier>,
+    // The places of the earlier pages' entries, in the order of their names.
+    by_name: Vec<usize>,
 }
 
 // Whether an index is kept.
@@ -259,15 +261,26 @@ fn has(pages: &[Entry], at: &Address) -> bool {
         .is_ok()
 }
 
-// The index of these pages, and of those of an earlier index of which none of them is.
+// The names of these entries, in order.
+fn names_of(alloc: Global, entries: &[Entry]) -> Result<Vec<String>, AllocError> {
+    let mut names = Vec::new(alloc);
+    for entry in entries {
+        names.push(String::from_str(alloc, entry.name())?)?;
+    }
+    names.sort()?;
+    Ok(names)
+}
+
+// The index of these pages, and of those of an earlier index that have neither an address nor a name of them.
 fn joined(
     alloc: Global,
     earlier: &[Entry],
     pages: &[Entry],
 ) -> Result<MirrorIndex, AllocError> {
+    let names = names_of(alloc, pages)?;
     let mut all = Vec::new(alloc);
     for entry in earlier {
-        if !has(pages, entry.address()) {
+        if !has(pages, entry.address()) && !is_among(names.as_slice(), entry.name()) {
             all.push(entry)?;
         }
     }
@@ -280,6 +293,40 @@ fn joined(
         index.add(alloc, named_again(alloc, *entry, entry.name())?)?;
     }
     Ok(index)
+}
+
+// The places of entries, in the order of their names.
+fn places_by_name(alloc: Global, entries: &[Entry]) -> Result<Vec<usize>, AllocError> {
+    let mut named = Vec::new(alloc);
+    for (place, entry) in entries.iter().enumerate() {
+        named.push((entry.name(), place))?;
+    }
+    named.sort_by(|one, other| one.0.cmp(other.0))?;
+    let mut places = Vec::new(alloc);
+    for (_, place) in named.iter() {
+        places.push(*place)?;
+    }
+    Ok(places)
+}
+
+// Whether one of these entries, of which these places are in the order of names, has this name and another address.
+fn is_anothers(entries: &[Entry], by_name: &[usize], name: &str, at: &Address) -> bool {
+    let first = by_name.partition_point(|place| match entries.get(*place) {
+        Some(entry) => entry.name() < name,
+        None => false,
+    });
+    let from = by_name.get(first..).unwrap_or_default();
+    for place in from {
+        match entries.get(*place) {
+            Some(entry) if entry.name() == name => {
+                if entry.address() != at {
+                    return true;
+                }
+            }
+            _ => return false,
+        }
+    }
+    false
 }
 
 // The pages of a run under the names that they got in the end, by those of its harvest. Pages that weren't kept aren't among them.
@@ -620,6 +667,7 @@ impl<F: Drop> IndexRun<F> {
             folder,
             upkeep,
             backs_up: order.backs_up,
+            by_name: places_by_name(self.alloc, earlier.pages.index().entries())?,
             earlier,
         };
         let begun = in_common(self.alloc, begun)?;
@@ -631,6 +679,18 @@ impl<F: Drop> IndexRun<F> {
     pub(crate) fn earlier<R: Wait>(&self, rt: &R) -> Option<Arc<Earlier>> {
         let begun = shared(&mut self.begun.lock(rt))?;
         Arc::try_clone(&begun.earlier).ok()
+    }
+
+    /// Whether the page of an address may have this name early: not if an earlier run gave it to another page, whose file may be read yet.
+    pub(crate) fn may_name<R: Wait>(&self, rt: &R, at: &Address, name: &str) -> bool {
+        let begun = shared(&mut self.begun.lock(rt));
+        match begun {
+            Some(begun) => {
+                let entries = begun.earlier.pages.index().entries();
+                !is_anothers(entries, begun.by_name.as_slice(), name, at)
+            }
+            None => true,
+        }
     }
 
     // Notes a page that has this name early, if it has one.

@@ -71,7 +71,10 @@ where
         let Ok(name) = rules.name_of(self.alloc, part.kind, at) else {
             return None;
         };
-        if is_early(name.as_str()) && self.early.claim(self.rt, name.as_str()) {
+        if !is_early(name.as_str()) || !self.index.may_name(self.rt, at, name.as_str()) {
+            return None;
+        }
+        if self.early.claim(self.rt, name.as_str()) {
             Some(name)
         } else {
             None

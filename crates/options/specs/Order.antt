@@ -57,20 +57,15 @@ unfoldable pub upkeep_of : List Row → Upkeep
 upkeep_of found =
     record { timestamps = is_set (codes "timestamping") found; skips = is_set (codes "no-clobber") found; continues = is_set (codes "continue") found; deletes_gone = is_set (codes "delete-gone") found }
 
--- it can all be so: pages aren't both requested and not, no record is resumed or saved beside, and what is gone is known
+-- it can all be so, perhaps with a record: pages aren't both requested and not, no record is resumed or saved beside, and what is gone is known
 abbrev pub agrees : Bool → Upkeep → Bool
-agrees has_record upkeep =
-    not (upkeep.timestamps && upkeep.skips) && not (has_record && (upkeep.timestamps || upkeep.skips || upkeep.continues))
-    && (not upkeep.deletes_gone || upkeep.timestamps || upkeep.skips)
-
--- a record is resumed or saved
-abbrev pub has_record : List Row → Bool
-has_record found = is_some (first_of (codes "resume") found) || is_some (first_of (codes "save") found)
+agrees has_record u = not (u.timestamps && u.skips) && not (has_record && (u.timestamps || u.skips || u.continues)) && (not u.deletes_gone || u.timestamps || u.skips)
 
 -- `--compression` and `--regex-type` have values that they may have, and what becomes of what earlier runs left can be so
 unfoldable pub are_good : List Row → Bool
 are_good found =
-    is_plain_value (first_of (codes "compression") found) && is_type (first_of (codes "regex-type") found) && agrees (has_record found) (upkeep_of found)
+    is_plain_value (first_of (codes "compression") found) && is_type (first_of (codes "regex-type") found)
+    && agrees (is_some (first_of (codes "resume") found) || is_some (first_of (codes "save") found)) (upkeep_of found)
 
 -- ---- which links of pages are taken
 

@@ -32,14 +32,12 @@ says_also said name = bytes_eq said name || (bytes_eq said (codes "append-output
 -- what `--mirror` says of the option of this name: it is `-r -l inf -N`
 abbrev pub mirrored : Text → Option Text
 mirrored name =
-    if bytes_eq name (codes "recursive") || bytes_eq name (codes "timestamping") then Some (codes "on")
-    else (if bytes_eq name (codes "level") then Some (codes "inf") else None)
+    if bytes_eq name (codes "recursive") || bytes_eq name (codes "timestamping") then Some (codes "on") else (if bytes_eq name (codes "level") then Some (codes "inf") else None)
 
 -- what an option with this value says of that of this name, if anything
 abbrev pub said_of : Text → Text → Text → Option Text
 said_of said value name =
-    if says_also said name then Some value
-    else (if bytes_eq said (codes "mirror") && bytes_eq value (codes "on") then mirrored name else None)
+    if says_also said name then Some value else (if bytes_eq said (codes "mirror") && bytes_eq value (codes "on") then mirrored name else None)
 
 abbrev pub value_with : Text → Bool → Option Text → Option Text → Option Text
 value_with name adds before None = before

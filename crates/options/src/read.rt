@@ -1,5 +1,5 @@
 //! Words are read as an order, or refused by the lowest fault.
-ghost use Rattle.std.specs.Prelude.{◌≡◌, ◌≢◌, ◌⊎◌, ℕ, List, true, ◌<◌, ◌≤◌, codes, drop, false, not, is_none, option_map, if◌then◌else◌, Some, None, Ok, Err, map, string_bytes, IfErr, IfOk, IfSome, MatchOption, MatchResult};
+ghost use Rattle.std.specs.Prelude.{◌≡◌, ◌≢◌, ◌⊎◌, ℕ, List, true, ◌<◌, ◌≤◌, codes, drop, false, not, is_none, is_some, ◌||◌, option_map, if◌then◌else◌, Some, None, Ok, Err, map, string_bytes, IfErr, IfOk, IfSome, MatchOption, MatchResult};
 ghost use Rattle.clap.specs.Words.{found_of, rows_of, first_of, kind_of};
 ghost use Rattle.address.specs.Address as address;
 ghost use Rattle.address.specs.Address.{is_robots_file, read_address};
@@ -16,7 +16,7 @@ ghost use Rattle.pacing.specs.Retries.{retries_by};
 ghost use Rattle.options.specs.Naming.{naming_by};
 ghost use Rattle.options.specs.Line.{rows};
 ghost use Rattle.options.specs.Sought.{IsUnsaid};
-ghost use Rattle.options.specs.Order.{AnswersOrder, AnswersRows, AnswersWords, OrdersBySayings, order_of_rows, order_of_written, order_said, are_good, is_plain_value, both, counts_of, patterns_of, directories_of, domains_of, expressions_of, fields_fault, fields_of, fields_with, logged, login_by, login_of, login_with, password_of, said_or, start_of, source_of, user_of, honours_robots, limit_within, links_of, ordered, ordered_by, folder_of, guarded, prefix_of, seeks, log_by, log_of, both_proxies, proxies_of, proxy_at, proxy_by, proxy_value, read_start, root_origin, rows_taken, taken_if, unless_empty, upkeep_of, has_record, agrees, with_others};
+ghost use Rattle.options.specs.Order.{AnswersOrder, AnswersRows, AnswersWords, OrdersBySayings, order_of_rows, order_of_written, order_said, are_good, is_plain_value, both, counts_of, patterns_of, directories_of, domains_of, expressions_of, fields_fault, fields_of, fields_with, logged, login_by, login_of, login_with, password_of, said_or, start_of, source_of, user_of, honours_robots, limit_within, links_of, ordered, ordered_by, folder_of, guarded, prefix_of, seeks, log_by, log_of, both_proxies, proxies_of, proxy_at, proxy_by, proxy_value, read_start, root_origin, rows_taken, taken_if, unless_empty, upkeep_of, agrees, with_others};
 ghost use Rattle.options.specs.Asked.{refusal_of, without_kind, words_refused};
 ghost use Rattle.options.specs.inner.Said.{saying_in};
 ghost use Rattle.options.specs.inner.Order.{StartsAt, FailsToStart, FailsToFilter, IsNoStart, Settles, fault_of_kind, unasked};
@@ -129,7 +129,7 @@ fn upkeep(matches: &ArgMatches) -> Upkeep
 
 // Whether a record is resumed or saved.
 fn has_record(matches: &ArgMatches) -> bool
-    ensures { result ≡ has_record (rows_of (found_of matches.now)) }
+    ensures { result ≡ (is_some (first_of (codes "resume") (rows_of (found_of matches.now))) || is_some (first_of (codes "save") (rows_of (found_of matches.now)))) }
 {
     given(matches, "resume").is_some() || given(matches, "save").is_some()
 }

@@ -316,7 +316,7 @@ const SUMMARY: [Summary<&str>; 100] = [
     },
     Summary {
         name: "timestamping",
-        says: "request pages of an earlier run only if they changed",
+        says: "request earlier pages only if they changed",
     },
     Summary {
         name: "no-clobber",
