@@ -51,7 +51,7 @@ fn keeps_index(upkeep: Upkeep) -> bool {
     upkeep.timestamps || upkeep.skips
 }
 
-// Whether nothing of what a stopped run left is taken.
+// Whether nothing of what earlier runs left is taken, and nothing is left for later ones.
 fn takes_nothing(upkeep: Upkeep) -> bool {
     !upkeep.continues && !keeps_index(upkeep)
 }
@@ -613,10 +613,12 @@ impl<F: Drop> IndexRun<F> {
             let why = format!(in self.alloc; "a run that was stopped left {count} pages")?;
             tell(rt, self.alloc, failures, path.as_str(), why.as_str(), "-c goes on with it")?;
         }
-        let journal = Journal::of(path, first, left);
-        let journal = match order.upkeep.continues {
-            true => journal.going_on(self.alloc, &pages)?,
-            false => journal,
+        let journal = if takes_nothing(order.upkeep) {
+            Journal::left_alone(self.alloc, path, left)
+        } else if order.upkeep.continues {
+            Journal::of(path, first, left).going_on(self.alloc, &pages)?
+        } else {
+            Journal::of(path, first, left)
         };
         set_journal(&mut self.journal.lock(rt), journal);
         Ok(pages)
@@ -675,9 +677,13 @@ impl<F: Drop> IndexRun<F> {
         Ok(())
     }
 
-    /// What is known of earlier runs' pages, once a run began.
+    /// What is known of earlier runs' pages, once a run began that takes of it or leaves for later ones. Without it no body is digested,
+    /// which would cost a third of a run.
     pub(crate) fn earlier<R: Wait>(&self, rt: &R) -> Option<Arc<Earlier>> {
         let begun = shared(&mut self.begun.lock(rt))?;
+        if takes_nothing(begun.upkeep) {
+            return None;
+        }
         Arc::try_clone(&begun.earlier).ok()
     }
 

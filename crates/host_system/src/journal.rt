@@ -224,7 +224,7 @@ pub(crate) struct Journal<F: Drop> {
     front: Vec<u8>,
     // The one that was left at its place, which is held until it is replaced.
     left: Option<F>,
-    // Whether this run goes on from that.
+    // Whether that is removed at the end, if this run has none of its own.
     continues: bool,
     // None before the first page.
     file: Option<F>,
@@ -270,6 +270,18 @@ impl<F: Drop> Journal<F> {
             front: first,
             left,
             continues: false,
+            file: None,
+        }
+    }
+
+    /// The one that was left at this path, to which nothing is added. It is held, and removed if the run ends well.
+    pub(crate) fn left_alone(alloc: Global, path: String, left: Option<F>) -> Journal<F> {
+        Journal {
+            path,
+            is_open: false,
+            front: Vec::new(alloc),
+            left,
+            continues: true,
             file: None,
         }
     }
