@@ -1,19 +1,61 @@
 //! One page of an earlier run.
+ghost use Rattle.std.specs.Prelude.{◌≡◌, ◌++◌, IfOk, OnOk, Some, option_map};
+ghost use Rattle.std.specs.Fmt.{decimal};
+ghost use Rattle.std.specs.Io.KnownBytes.{prepend_known};
+ghost use Rattle.earlier_pages.specs.Pages.{condition_by, field_line, front_lines, recorded_head};
+
 use crate::recorded_stream::RecordedStream;
 use mirror_index::Entry;
 use requests::Condition;
 use std::alloc::{AllocError, Global};
+use std::io::Read;
+use std::marker::Model;
 
 /// A page of an earlier run whose file has the bytes that it had.
 #[derive(Drop)]
-pub struct EarlierPage<'a, F: Drop> {
+pub struct EarlierPage<'a, F: Read + Drop> {
     alloc: Global,
     entry: &'a Entry,
     file: F,
 }
 
-// Adds a field of a head, if it has a value.
-fn push_field(head: &mut Vec<u8>, name: &[u8], value: Option<&[u8]>) -> Result<(), AllocError> {
+impl<'a, F: Read + Drop> Model for EarlierPage<'a, F> {
+    ghost use Rattle.earlier_pages.specs.Pages.{PageValue};
+
+    ghost Value = { PageValue F };
+
+    ghost view = { λ p. record { entry = p.entry.now; file = p.file } };
+}
+
+// Adds a line that ends in a number.
+fn push_line(
+    alloc: Global,
+    head: &mut Vec<u8>,
+    front: &[u8],
+    number: u64,
+    end: &[u8],
+) -> Result<(), AllocError>
+    ensures { OnOk result (head.new.items ≡ head.old.items ++ (front.now ++ (decimal number ++ end.now))) }
+{
+    let digits = format!(in alloc; "{number}")?;
+    head.extend_from_slice(front)?;
+    head.extend_from_slice(digits.as_bytes())?;
+    head.extend_from_slice(end)
+}
+
+// Adds the status, and how long the body is.
+fn push_front(alloc: Global, head: &mut Vec<u8>, entry: &Entry) -> Result<(), AllocError>
+    ensures { OnOk result (head.new.items ≡ head.old.items ++ front_lines entry.now) }
+{
+    let status = u64::from(entry.head().status());
+    push_line(alloc, head, b"HTTP/1.1 ", status, b" \r\n")?;
+    push_line(alloc, head, b"Content-Length: ", entry.size(), b"\r\n")
+}
+
+// Adds a field, if it has a value.
+fn push_field(head: &mut Vec<u8>, name: &[u8], value: Option<&[u8]>) -> Result<(), AllocError>
+    ensures { OnOk result (head.new.items ≡ head.old.items ++ field_line name.now (option_map (λ v. v.now) value.entry)) }
+{
     let Some(value) = value else {
         return Ok(());
     };
@@ -24,12 +66,12 @@ fn push_field(head: &mut Vec<u8>, name: &[u8], value: Option<&[u8]>) -> Result<(
 }
 
 // The head of the response that was received, as far as it counts for its answer.
-fn head_of(alloc: Global, entry: &Entry) -> Result<Vec<u8>, AllocError> {
+fn head_of(alloc: Global, entry: &Entry) -> Result<Vec<u8>, AllocError>
+    ensures { IfOk result (λ head. head.items ≡ recorded_head entry.now) }
+{
     let recorded = entry.head();
-    let status = recorded.status();
-    let size = entry.size();
-    let line = format!(in alloc; "HTTP/1.1 {status} \r\nContent-Length: {size}\r\n")?;
-    let mut head = Vec::from_slice(alloc, line.as_bytes())?;
+    let mut head = Vec::new(alloc);
+    push_front(alloc, &mut head, entry)?;
     push_field(&mut head, b"Content-Type", recorded.content_type())?;
     push_field(&mut head, b"ETag", recorded.etag())?;
     push_field(&mut head, b"Last-Modified", recorded.last_modified())?;
@@ -37,19 +79,26 @@ fn head_of(alloc: Global, entry: &Entry) -> Result<Vec<u8>, AllocError> {
     Ok(head)
 }
 
-impl<'a, F: Drop> EarlierPage<'a, F> {
+impl<'a, F: Read + Drop> EarlierPage<'a, F> {
     // Of this entry, with its file, of which nothing was read.
-    pub(crate) fn new(alloc: Global, entry: &'a Entry, file: F) -> EarlierPage<'a, F> {
+    pub(crate) fn new(alloc: Global, entry: &'a Entry, file: F) -> EarlierPage<'a, F>
+        ensures entry { result.entry ≡ entry.now }
+        ensures file { result.file ≡ file }
+    {
         EarlierPage { alloc, entry, file }
     }
 
     /// What the index says of it.
-    pub fn entry(&self) -> &Entry {
+    pub fn entry(&self) -> &Entry
+        ensures { result.now ≡ self.now.entry }
+    {
         self.entry
     }
 
     /// The condition with which it is requested, if its server said by what one sees whether it changed.
-    pub fn condition(&self) -> Result<Option<Condition>, AllocError> {
+    pub fn condition(&self) -> Result<Option<Condition>, AllocError>
+        ensures { IfOk result (λ condition. condition ≡ condition_by self.now.entry) }
+    {
         let recorded = self.entry.head();
         Condition::of(
             self.alloc,
@@ -59,8 +108,11 @@ impl<'a, F: Drop> EarlierPage<'a, F> {
         )
     }
 
-    /// The response that was received.
-    pub fn into_stream(self) -> Result<RecordedStream<F>, AllocError> {
+    /// The response that was received, as far as it counts for its answer: its head as the index says it, and its body.
+    pub fn into_stream(self) -> Result<RecordedStream<F>, AllocError>
+        ensures head { IfOk result (λ stream. stream.rest ≡ recorded_head self.entry.entry) }
+        ensures body { IfOk result (λ stream. stream.body ≡ self.entry.file) }
+    {
         let EarlierPage { alloc, entry, file } = self;
         let head = head_of(alloc, entry)?;
         Ok(RecordedStream::new(head, file))

@@ -1,4 +1,7 @@
 //! What an earlier run left in a folder.
+ghost use Rattle.std.specs.Prelude.{◌≡◌, IfSome};
+ghost use Rattle.mirror_index.specs.Indexes.{HasThis};
+
 use crate::earlier_page::EarlierPage;
 use address::Address;
 use mirror_index::{Entry, MirrorIndex};
@@ -7,6 +10,7 @@ use std::alloc::Global;
 use std::fs::{File, Files};
 use std::io;
 use std::io::{ErrorKind, Read};
+use std::marker::Model;
 
 /// How many bytes of a file are read at a time.
 const ROOM: usize = 65_536;
@@ -17,6 +21,16 @@ pub struct EarlierPages {
     alloc: Global,
     folder: String,
     index: MirrorIndex,
+}
+
+// Contracts see what the index says.
+impl Model for EarlierPages {
+    ghost use Rattle.std.specs.Prelude.{List};
+    ghost use Rattle.mirror_index.specs.Entries.{Entry};
+
+    ghost Value = { List Entry };
+
+    ghost view = { λ p. p.index };
 }
 
 // The SHA-256 of what a file has still to give, if that is so many bytes.
@@ -57,7 +71,9 @@ fn has_bytes<R: Files>(rt: &R, alloc: Global, path: &str, entry: &Entry) -> io::
 
 impl EarlierPages {
     /// Those of this index, whose files are below this folder.
-    pub fn new(alloc: Global, folder: String, index: MirrorIndex) -> EarlierPages {
+    pub fn new(alloc: Global, folder: String, index: MirrorIndex) -> EarlierPages
+        ensures { result ≡ index }
+    {
         EarlierPages {
             alloc,
             folder,
@@ -66,7 +82,9 @@ impl EarlierPages {
     }
 
     /// The index.
-    pub fn index(&self) -> &MirrorIndex {
+    pub fn index(&self) -> &MirrorIndex
+        ensures { result.now ≡ self.now }
+    {
         &self.index
     }
 
@@ -85,7 +103,9 @@ impl EarlierPages {
     }
 
     /// The page of an address, if one was kept and its file has the bytes that it had. What can't be read isn't there.
-    pub fn page<R: Files>(&self, rt: &R, at: &Address) -> Option<EarlierPage<'_, R::File>> {
+    pub fn page<R: Files>(&self, rt: &R, at: &Address) -> Option<EarlierPage<'_, R::File>>
+        ensures { IfSome result (λ page. HasThis self.now at.now page.entry) }
+    {
         let entry = self.index.entry(at)?;
         let Ok(Some(file)) = self.file(rt, entry) else {
             return None;
