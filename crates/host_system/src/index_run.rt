@@ -272,11 +272,7 @@ fn names_of(alloc: Global, entries: &[Entry]) -> Result<Vec<String>, AllocError>
 }
 
 // The index of these pages, and of those of an earlier index that have neither an address nor a name of them.
-fn joined(
-    alloc: Global,
-    earlier: &[Entry],
-    pages: &[Entry],
-) -> Result<MirrorIndex, AllocError> {
+fn joined(alloc: Global, earlier: &[Entry], pages: &[Entry]) -> Result<MirrorIndex, AllocError> {
     let names = names_of(alloc, pages)?;
     let mut all = Vec::new(alloc);
     for entry in earlier {
@@ -377,13 +373,14 @@ fn is_sure(harvest: &Harvest<Part>, earlier: &MirrorIndex) -> bool {
     if harvest.kept().is_empty() {
         return false;
     }
-    if harvest.records().iter().any(|(_, outcome)| is_open(outcome)) {
+    if harvest
+        .records()
+        .iter()
+        .any(|(_, outcome)| is_open(outcome))
+    {
         return false;
     }
-    !harvest
-        .entries()
-        .iter()
-        .any(|entry| entry.refused && earlier.entry(&entry.address).is_some())
+    !harvest.entries().iter().any(|entry| entry.refused && earlier.entry(&entry.address).is_some())
 }
 
 // Writes the index of a folder in the run's own directory, and puts it in its place when it is whole.
@@ -582,10 +579,24 @@ impl<F: Drop> IndexRun<F> {
             Left::Unfit(why) => why,
         };
         if upkeep.continues {
-            tell(rt, self.alloc, failures, path, why.as_str(), "nothing is requested")?;
+            tell(
+                rt,
+                self.alloc,
+                failures,
+                path,
+                why.as_str(),
+                "nothing is requested",
+            )?;
             return Err(BeginFault::Unfit);
         }
-        tell(rt, self.alloc, failures, path, why.as_str(), "nothing of it is taken")?;
+        tell(
+            rt,
+            self.alloc,
+            failures,
+            path,
+            why.as_str(),
+            "nothing of it is taken",
+        )?;
         Ok(Usable::Pages(MirrorIndex::new(self.alloc), None))
     }
 
@@ -611,7 +622,14 @@ impl<F: Drop> IndexRun<F> {
         if left.is_some() && takes_nothing(order.upkeep) {
             let count = pages.len();
             let why = format!(in self.alloc; "a run that was stopped left {count} pages")?;
-            tell(rt, self.alloc, failures, path.as_str(), why.as_str(), "-c goes on with it")?;
+            tell(
+                rt,
+                self.alloc,
+                failures,
+                path.as_str(),
+                why.as_str(),
+                "-c goes on with it",
+            )?;
         }
         let journal = if takes_nothing(order.upkeep) {
             Journal::left_alone(self.alloc, path, left)
@@ -730,7 +748,8 @@ impl<F: Drop> IndexRun<F> {
         own: &str,
         note: PageNote,
         name: Option<&str>,
-    ) where
+    )
+    where
         F: Write + Lock,
     {
         if let Err(error) = self.try_note(rt, own, note, name) {
@@ -753,7 +772,14 @@ impl<F: Drop> IndexRun<F> {
             return Ok(());
         }
         let names = sorted(self.alloc, names)?;
-        make_way(rt, self.alloc, failures, &begun, names.as_slice(), harvest.kept())
+        make_way(
+            rt,
+            self.alloc,
+            failures,
+            &begun,
+            names.as_slice(),
+            harvest.kept(),
+        )
     }
 
     /// All pages of a harvest were put under these names. If there is no memory to know, no index is written.
@@ -815,7 +841,8 @@ impl<F: Drop> IndexRun<F> {
         failures: &SharedFailures,
         own: &str,
         is_whole: bool,
-    ) where
+    )
+    where
         F: Close,
     {
         let Some(put) = take_put(&mut self.put.lock(rt)) else {

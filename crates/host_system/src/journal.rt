@@ -183,10 +183,7 @@ fn pages_in<F: io::Read + Drop>(
 
 /// Whether an error says that nothing is at a path.
 pub(crate) fn is_nothing(error: &io::Error) -> bool {
-    matches!(
-        error.kind(),
-        ErrorKind::NotFound | ErrorKind::NotADirectory
-    )
+    matches!(error.kind(), ErrorKind::NotFound | ErrorKind::NotADirectory)
 }
 
 /// What an earlier run left at a path, for a run whose journal begins with this line.
@@ -231,13 +228,7 @@ pub(crate) struct Journal<F: Drop> {
 }
 
 // Makes a journal at a path, with this front, by way of a file in the run's own directory. It takes the place of what is there.
-fn make<R: Files>(
-    rt: &R,
-    alloc: Global,
-    own: &str,
-    path: &str,
-    front: &[u8],
-) -> io::Result<R::File>
+fn make<R: Files>(rt: &R, alloc: Global, own: &str, path: &str, front: &[u8]) -> io::Result<R::File>
 where
     R::File: Lock,
 {

@@ -10,6 +10,7 @@ ghost use Rattle.http_fetcher.specs.Meanings.{MayAnswer, MayRule};
 ghost use Rattle.retries.specs.Keeping.{MayKeep, StandsForAnswer, asks_of, is_worth_answer};
 ghost use Rattle.retries.specs.Tries.{IsLastOf};
 ghost use Rattle.retries.specs.Worth.{is_worth, is_worth_hops};
+ghost use Rattle.tcp_fetcher.specs.TcpFetching.{conditioned};
 
 use crate::watched_tcp::WatchedTcp;
 use address::{Address, Origin};
@@ -64,13 +65,15 @@ impl<'a, R: Net + Wait + Clock + Eprint> Drop for OverTcp<'a, R> {
 }
 
 impl<'a, R: Net + Wait + Clock + Eprint> Model for OverTcp<'a, R> {
+    ghost use Rattle.std.specs.Prelude.{None};
     ghost use Rattle.pacing.specs.Retries.{retries_by};
     ghost use Rattle.response_reader.specs.Limits.{limited};
     ghost use Rattle.tcp_fetcher.specs.TcpFetching.{TcpFetching};
 
     ghost Value = { TcpFetching };
 
-    ghost view = { λ f. record { links = f.inner.links; keeps = f.inner.keeps; most = f.inner.connect.most; sends = f.inner.sends; retries = retries_by f.retries; limits = limited f.limits; takes_times = f.takes_times; asks = f.asks.items; single = f.inner } };
+    // It knows of no earlier run.
+    ghost view = { λ f. record { links = f.inner.links; keeps = f.inner.keeps; most = f.inner.connect.most; sends = f.inner.sends; retries = retries_by f.retries; limits = limited f.limits; takes_times = f.takes_times; asks = f.asks.items; single = f.inner; known = None } };
 }
 
 impl<'a, R: Net + Wait + Clock + Eprint> OverTcp<'a, R> {
@@ -124,10 +127,10 @@ impl<'a, R: Net + Wait + Clock + Eprint> OverTcp<'a, R> {
         }
     }
 
-    /// From here on the request for the page of this condition has it (RFC 9110, section 13.1), each try of it, and no other request has
-    /// one. Takes no memory.
-    pub fn set_condition(&mut self, condition: Option<Condition>)
-        ensures { self.new ≡ record self.old { sends = with_condition condition self.old.sends; single = record self.old.single { sends = with_condition condition self.old.single.sends } } }
+    // From here on the request for the page of this condition has it (RFC 9110, section 13.1), each try of it, and no other request has
+    // one.
+    pub(crate) fn set_condition(&mut self, condition: Option<Condition>)
+        ensures { self.new ≡ record self.old { sends = with_condition condition self.old.sends; single = conditioned condition self.old.single } }
     {
         self.inner.set_condition(condition);
     }
@@ -146,7 +149,7 @@ impl<'a, R: Net + Wait + Clock + Eprint> OverTcp<'a, R> {
         self.limits
     }
 
-    // Notes that a page is requested, whose answer is known without the network.
+    // Notes that a page is requested of it, whether that is then known without the network or not.
     pub(crate) fn note_ask(&mut self, at: &Address) -> Result<(), AllocError>
         ensures asked { OnOk result (self.new ≡ record self.old { asks = self.old.asks ++ ask.Page at.now ∷ [] }) }
         ensures refused { OnErr result (self.new ≡ self.old) }
@@ -200,23 +203,22 @@ impl<'a, R: Net + Wait + Clock + Eprint> OverTcp<'a, R> {
         hops.rules(self.alloc)
     }
 
-    // Requests a page, whose body goes to the sink's keeper while it arrives.
-    pub(crate) fn ask_into<K: Keeper>(
+    // Requests a page over the network that was noted, whose body goes to the sink's keeper while it arrives.
+    pub(crate) fn ask_noted<K: Keeper>(
         &mut self,
         sink: &mut PageSink<K>,
         at: &Address,
     ) -> Result<Answer<K::Kept>, AllocError>
         ensures site { self.new.links ≡ self.old.links }
         ensures told { IfOk result (StandsForAnswer K.holds self.old.limits self.old.links at.now) }
-        ensures asked { OnOk result (self.new.asks ≡ self.old.asks ++ ask.Page at.now ∷ []) }
-        ensures refused { OnErr result (GainedAtMost self.old.asks self.new.asks (ask.Page at.now)) }
+        ensures asks { self.new.asks ≡ self.old.asks }
         ensures tries { IfOk result (IsLastOf asks_of (MayKeep K.holds self.old.limits at.now) (is_worth_answer self.old.retries) (ask.Page at.now) self.old.retries.most self.old.single self.new.single) }
         ensures retries { self.new.retries ≡ self.old.retries }
         ensures limits { self.new.limits ≡ self.old.limits }
         ensures takes_times { self.new.takes_times ≡ self.old.takes_times }
         ensures sends { self.new.sends ≡ self.old.sends }
+        ensures known { self.new.known ≡ self.old.known }
     {
-        self.asks.push(Ask::Page(at.try_clone()?))?;
         retries::ask_into(&mut self.inner, sink, &self.retries, at, self.limits)
     }
 }
