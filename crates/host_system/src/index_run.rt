@@ -473,8 +473,17 @@ fn has_below(alloc: Global, names: &[String], name: &str) -> Result<bool, AllocE
 
 // Whether a directory of this name is one of these names, which are in order.
 fn is_below(names: &[String], name: &str) -> bool {
-    name.match_indices('/')
-        .any(|(at, _)| is_among(names, &name[..at]))
+    let mut below = name;
+    for _ in 0..name.len() {
+        let Some((dirs, _)) = below.rsplit_once('/') else {
+            return false;
+        };
+        if is_among(names, dirs) {
+            return true;
+        }
+        below = dirs;
+    }
+    false
 }
 
 // The same, unless a file of this run has the name, or there is no such file. A failure is kept for a person.

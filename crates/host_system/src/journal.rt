@@ -89,7 +89,7 @@ fn push(entries: &mut Vec<Entry>, entry: Entry) -> Result<(), AllocError> {
 // The entries of whole lines. What is after the last end of a line isn't whole.
 fn entries_in(alloc: Global, bytes: &[u8]) -> Result<Vec<Entry>, JournalFault> {
     let whole = match bytes.iter().rposition(|byte| *byte == b'\n') {
-        Some(last) => &bytes[..last],
+        Some(last) => bytes.get(..last).unwrap_or_default(),
         None => return Ok(Vec::new(alloc)),
     };
     let mut entries = Vec::new(alloc);

@@ -207,8 +207,9 @@ where
     fn begin_index(&self, order: &Order) -> Result<(), HoldFault> {
         match self.index.begin(self.rt, self.failures, order) {
             Ok(()) => Ok(()),
-            Err(BeginFault::Unfit) => Err(HoldFault::Refused),
-            Err(BeginFault::Memory) => Err(HoldFault::Memory),
+            // Nothing else is unfit.
+            Err(BeginFault::Unfit) if order.upkeep.continues => Err(HoldFault::Refused),
+            Err(BeginFault::Unfit | BeginFault::Memory) => Err(HoldFault::Memory),
         }
     }
 
