@@ -79,7 +79,7 @@ impl<'a, R: Net + Wait + Clock + Eprint> Model for OverTcp<'a, R> {
 impl<'a, R: Net + Wait + Clock + Eprint> OverTcp<'a, R> {
     ghost use Rattle.std.specs.Prelude.{◌≡◌, Some, is_some, []};
     ghost use Rattle.pacing.specs.Retries.{retries_by};
-    ghost use Rattle.response_reader.specs.Limits.{limits_of};
+    ghost use Rattle.response_reader.specs.Limits.{limited, limits_of};
 
     /// By this handle, with what the run knows of hosts and keeps of connections, and the line that counts what comes. Of the
     /// links of pages those are edges that `links` takes. Connections are kept among those of the run
