@@ -12,7 +12,7 @@ ghost use Rattle.address.specs.AddressOrder.{IsAscending};
 use crate::note::{Notes, PageNote, RulesNote};
 use address::{Address, Origin};
 use frontier_core::Frontier;
-use harvest::Named;
+use harvest::{Named, order_nearly};
 
 /// Sorts things by their names' bytes, and says whether no two are named alike.
 pub fn sort_and_ascend<T: Named>(things: &mut Vec<T>) -> bool
@@ -24,13 +24,14 @@ pub fn sort_and_ascend<T: Named>(things: &mut Vec<T>) -> bool
     ascend(things)
 }
 
-/// The same, if there is memory by the sort that keeps runs: notes come worker by worker in order of discovery, and links of
-/// a site mostly ascend, so that few names are compared.
+/// The same, if there is memory by a few bytes of each name first, and then by the sort that keeps runs, so that few names
+/// are compared.
 pub fn order_and_ascend<T: Named>(things: &mut Vec<T>) -> bool
     ensures permutation { IsPermutation things.old.items things.new.items }
     ensures ascending { IsTrue result → IsAscending (map T.text_of things.new.items) }
     ensures once { IsTrue result ↔ IsOnce (map T.text_of things.new.items) }
 {
+    order_nearly(things);
     match things.sort_by(|thing, other| thing.name().cmp(other.name())) {
         Ok(()) => ascend(things),
         Err(_) => sort_and_ascend(things),

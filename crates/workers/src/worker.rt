@@ -10,7 +10,7 @@ use address::{Address, Origin};
 use fetcher::{Answer, Fetcher, Outcome};
 use follow_filters::Plan;
 use frontier_core::{AnswerFault, Cause, OriginPermit, Permit, SpreadFault, Work};
-use frontier_lock::{Done, FrontierLock, Held, Refused};
+use frontier_lock::{Done, FrontierLock, Held, Refused, Unanswered};
 use harvest::is_success;
 use robots_rules::RuleSet;
 use std::alloc::{AllocError, Global};
@@ -106,37 +106,6 @@ fn give<R: Wait>(rt: &R, lock: &FrontierLock<'_>, done: Done) -> bool {
     }
 }
 
-// What was received of a page: the outcome, a copy for the frontier, and the body if the page is kept.
-#[derive(Drop)]
-struct ToldPage<B> {
-    outcome: Outcome,
-    copy: Outcome,
-    body: Option<B>,
-}
-
-// What an answer contains of a page. Before its outcome is copied its edges take the texts of held addresses: a list
-// with one owner alone can be written to.
-fn told_of<B: Drop, R: Wait>(
-    rt: &R,
-    lock: &FrontierLock<'_>,
-    plan: &Plan,
-    address: &Address,
-    answer: Answer<B>,
-) -> Result<ToldPage<B>, AllocError>
-    ensures outcome { IfOk result (λ told. told.outcome ≡ answer.outcome) }
-    ensures body { IfOk result (λ told. told.body ≡ body_of plan.now address.now answer.outcome answer.body) }
-{
-    let Answer { mut outcome, body } = answer;
-    lock.share_texts(rt, &mut outcome);
-    let copy = outcome.try_clone()?;
-    let body = keep_body(plan, address, &outcome, body);
-    Ok(ToldPage {
-        outcome,
-        copy,
-        body,
-    })
-}
-
 // The note of a page that was requested, if nothing of it was handed over.
 fn untold_page<B>(worker: u32, address: Address) -> PageNote<B>
     ensures { result ≡ record { worker = worker; address = address; told = None; body = None } }
@@ -179,20 +148,14 @@ fn hand_over<B: Drop, Q: Quota<B>, R: Wait>(
     ensures address { result.0.address ≡ address }
     ensures told { MatchOption result.0.told (result.0.body ≡ None) (λ x. (x ≡ answer.outcome) × (result.0.body ≡ body_of plan.now result.0.address x answer.body)) }
 {
-    let Ok(told) = told_of(rt, lock, plan, &address, answer) else {
-        let stopped = halt(rt, lock, Some(Held::Page(permit)), Cause::Memory);
-        return (untold_page(worker, address), stopped);
-    };
-    let ToldPage {
-        outcome,
-        copy,
-        body,
-    } = told;
+    let Answer { mut outcome, body } = answer;
+    let body = keep_body(plan, &address, &outcome, body);
     count(rt, lock, meter, &body);
-    let next = match lock.give_and_take(rt, worker, Done::Page(permit, copy)) {
+    let next = match lock.answer_and_take(rt, worker, permit, &mut outcome) {
         Ok(next) => next,
-        Err(refused) => {
-            let stopped = Work::Stopped(refuse(rt, lock, refused));
+        Err(unanswered) => {
+            let Unanswered { permit, fault } = unanswered;
+            let stopped = halt(rt, lock, Some(Held::Page(permit)), cause_of(fault));
             return (untold_page(worker, address), stopped);
         }
     };
