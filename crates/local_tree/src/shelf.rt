@@ -1,4 +1,4 @@
-//! What a folder is asked for that takes bodies as those hand them out who keep them.
+//! What a folder is to do that takes bodies as those hand them out who keep them.
 ghost use Rattle.std.specs.Prelude.{◌≡◌, ◌&&◌, ℕ, OnOk, OnErr, IfOk, IfErr, length, map, string_bytes};
 ghost use Rattle.kept_bodies.specs.Bodies.{BodyValue};
 ghost use Rattle.kept_bodies.specs.declared.body_kind.BodyKind.{BodyKind};
@@ -73,7 +73,7 @@ fn put_as<D: Folder>(
 
 /// A folder that takes kept bodies of this type. Each folder takes those in memory.
 pub trait Shelf<B: Drop>: Folder {
-    // Which body a kept one may be. Of one that may be any, a folder that tells its files says nothing.
+    // Which body a kept one may be. Of one that may be any, nothing is known even if the folder's files are.
     ghost holds: { B → BodyValue → Type 0 };
 
     /// Puts a file of this name below the folder, with the bytes of this body. All else is as of [`Folder::put`].
@@ -82,7 +82,7 @@ pub trait Shelf<B: Drop>: Folder {
         ensures torn { OnErr result (KeepsOthers (Self.files self.old) (Self.files self.new) name.now) }
         ensures counted { CountsRefusedPut (Self.failed self.old) (Self.failed self.new) result };
 
-    /// Puts the kept pages of a harvest, in their order, each under its name. Where a put fails no other is made. A folder may make
+    /// Puts the kept pages of a harvest, in their order, each under its name. If a put fails, no other is made. A folder may make
     /// the files ready in another order, as long as nobody finds one under its name before its turn.
     fn put_harvest(&mut self, names: &[String], harvest: &Harvest<B>) -> Result<(), WriteFault>
         requires count { length names.now ≡ length harvest.now.kept }

@@ -114,7 +114,7 @@ fn is_plain_value(value: Option<&str>) -> bool
     }
 }
 
-// What is wrong with words that `clap` takes: an encoding of bodies is asked for, or a kind of expressions that isn't known.
+// What is wrong with words that `clap` takes: an encoding of bodies is requested, or a kind of expressions that isn't known.
 #[tactic(auto, unfolding(crate::specs::Order::are_good))]
 fn word_fault(matches: &ArgMatches) -> Option<LineFault>
     ensures good { is_none result ≡ are_good (rows_of (found_of matches.now)) }

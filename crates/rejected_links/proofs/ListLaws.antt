@@ -85,7 +85,7 @@ from_joined f (x ∷ xs) y among =
 
 -- ---- sorted, each once
 
--- what elements say stays if they are put in another order and each is kept once, where those that count as the same say the same
+-- what elements say stays if they are put in another order and each is kept once, if those that count as the same say the same
 pub kept_once : {X Y : Type 0} (f : X → Y) {E : X → X → Bool} → IsEquivalence E → ((x z : X) → E x z ≡ true → f x ≡ f z) → (xs sorted kept : List X) → IsPermutation xs sorted → kept ≡ dedup E sorted
     → (y : Y) → Contains (map f kept) y ↔ Contains (map f xs) y
 kept_once {X} {Y} f {E} equal same xs sorted kept moved is y = (there, back)

@@ -243,7 +243,7 @@ where
 {
     ghost use Rattle.std.specs.Prelude.{⊤};
 
-    // Of what stands on the disk nothing is known.
+    // Of what is on the disk nothing is known.
     ghost holds = { λ part body. ⊤ };
 
     fn put_kept(&mut self, name: &str, kept: &Part) -> Result<(), FolderFault> {
@@ -305,7 +305,7 @@ pub fn put_parts<D: NamesParts>(
     harvest: &Harvest<Part>,
 ) -> Result<(), WriteFault>
     requires { length names.now ≡ length harvest.now.kept }
-    // As of a folder that tells no files.
+    // As of a folder whose files aren't known.
     ensures torn { IfErr result (IsHalfShelvedBy (λ part body. ⊤) (map string_bytes names.now) harvest.now.bodies (untold (D.failed folder.old)) (untold (D.failed folder.new))) }
     ensures named { IfErr result (AreNamedBy (length names.now) (D.failed folder.old) (D.failed folder.new)) }
     ensures quiet { OnOk result (D.failed folder.new ≡ D.failed folder.old) }
@@ -359,7 +359,7 @@ pub fn put_changed_parts<D: NamesParts, C: BodyChange>(
     change: &C,
 ) -> Result<bool, WriteFault>
     requires { length names.now ≡ length harvest.now.kept }
-    // As of a folder that tells no files.
+    // As of a folder whose files aren't known.
     ensures torn { IfErr result (IsHalfShelvedAsBy (C.becomes change.now) (λ part body. ⊤) (map string_bytes names.now) harvest.now.bodies (untold (D.failed folder.old)) (untold (D.failed folder.new))) }
     ensures named { IfErr result (AreNamedBy (length names.now) (D.failed folder.old) (D.failed folder.new)) }
     ensures quiet { OnOk result (D.failed folder.new ≡ D.failed folder.old) }
