@@ -1,6 +1,6 @@
 //! Pages that an earlier run left in a folder. Its one idea: nothing that its index says is trusted: a page is there only if its file has
 //! the very bytes that it had, by their number and SHA-256. What a disk holds no clause says: who reads a page again computes its digest
-//! once more. Its tests are in `tests/`.
+//! once more. The program doesn't use it yet, and no test is of it.
 //!
 //! ```
 //! let Some(page) = earlier.page(rt, &at) else { .. }; // to be requested as if nothing was there
