@@ -1,4 +1,4 @@
--- The order of addresses: what sorting by it gives, and that nothing stands before itself.
+-- The order of addresses: what sorting by it gives, and that nothing is before itself.
 use Rattle.std.proofs.Common.{◌≡◌, ℕ, ◌+◌, ◌<◌, true, false, List, [], ◌∷◌, length, get_or, map, arith, sym, ◌∙◌, ap, refl}
 use Rattle.std.proofs.lemmas.Bool.{false≢true}
 use Rattle.std.proofs.lemmas.List.{length-map, get_or-map}
@@ -11,24 +11,24 @@ use Rattle.std.specs.List.Sorted.{IsSortedBy}
 use Rattle.std.specs.Ordering.{nat_cmp, is_lt, ordering_reverse}
 use Rattle.address.specs.AddressOrder.{IsBefore, IsAscending}
 
--- of two different texts the one that isn't before is behind
+-- of two different texts the one that isn't before is after it
 is_behind : (o r : Ordering) → r ≡ ordering_reverse o → is_lt o ≡ false → (o ≡ Equal → ⊥) → is_lt r ≡ true
 is_behind Less r e h ne = absurd (false≢true (sym h))
 is_behind Equal r e h ne = absurd (ne refl)
 is_behind Greater r e h ne = ap is_lt e
 
--- what is before isn't behind too
+-- what is before isn't after too
 not_behind : (o r : Ordering) → r ≡ ordering_reverse o → is_lt o ≡ true → is_lt r ≡ false
 not_behind Less r e h = ap is_lt e
 not_behind Equal r e h = absurd (false≢true h)
 not_behind Greater r e h = absurd (false≢true h)
 
--- no text stands before itself
+-- no text is before itself
 pub not_before_itself : (u : List ℕ) → IsBefore u u → ⊥
 not_before_itself u before =
     false≢true (sym (not_behind _ _ (nat_list_cmp_total.antisymm u u) before) ∙ before)
 
--- of two texts one alone stands before the other
+-- of two texts one alone is before the other
 pub not_before : (u v : List ℕ) → IsBefore u v → is_lt (slice_cmp nat_cmp v u) ≡ false
 not_before u v before = not_behind _ _ (nat_list_cmp_total.antisymm v u) before
 

@@ -1,4 +1,4 @@
--- Where the last slash of a path stands.
+-- The place of the last slash of a path.
 use Rattle.std.proofs.Common.{false, ◌+◌, ◌-◌, ◌==◌, ◌≢◌, ◌≡◌, ℕ, ◌≤◌, ◌<◌, not, List, length, get_or, take, drop, All, sym, ap, ◌∙◌, ⊎_elim, arith, length-drop, length-take-le}
 use Rattle.std.specs.Prelude.{reverse}
 use Rattle.std.specs.List.{prefix_len}

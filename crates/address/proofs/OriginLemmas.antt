@@ -36,7 +36,7 @@ text_at_path url path http =
     text_split (at_path url path) (authority_is url http) http.fragment
     ∙ ap (λ p. text_between url BeforeScheme AfterPort ++ p) (append-nil path)
 
--- that is an address too, where the path is short
+-- that is an address too, if the path is short
 pub IsHttp-at_path : (url : Parts) (path : List ℕ) → IsHttp url → IsSegmentList SpecialNotFile path → 0 < length path → length path ≤ 11 → IsHttp (at_path url path)
 IsHttp-at_path url path http list some few =
     let host : List ℕ = host_text (host_or_empty url) in

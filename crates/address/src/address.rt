@@ -51,7 +51,7 @@ impl Model for Address {
 }
 
 impl Address {
-    /// Reads an absolute URL, as `http://h:81/a?b`; a fragment is dropped (URL Standard, section 4.4).
+    /// Reads an absolute URL, such as `http://h:81/a?b`; a fragment is dropped (URL Standard, section 4.4).
     /// [`AddressFault`] has the condition of each refusal.
     pub fn read(alloc: Global, text: &str) -> Result<Address, AddressFault>
         ensures value { Gives result (read_address text.now) }
@@ -82,7 +82,7 @@ impl Address {
         }
     }
 
-    /// Reads a URL, as `../a?b`, with this address as its base and as its scheme reads it; a fragment
+    /// Reads a URL, such as `../a?b`, with this address as its base and as its scheme reads it; a fragment
     /// is dropped (URL Standard, section 4.4). [`AddressFault`] has the condition of each refusal.
     pub fn join(&self, link: &str) -> Result<Address, AddressFault>
         ensures value { Gives result (join_address self.now link.now) }
@@ -118,7 +118,7 @@ impl Address {
         Address::sharing(alloc, url)
     }
 
-    // The address of a URL that keeps the rules. The error is that memory is wanting.
+    // The address of a URL that keeps the rules. Fails only if memory runs out.
     fn sharing(alloc: Global, url: Url) -> Result<Address, AddressFault>
         requires { IsHttp url }
         ensures { MatchResult result (λ address. address ≡ url_text_of url) (λ fault. fault ≡ Memory) }
@@ -137,7 +137,7 @@ impl Address {
         &*self.url
     }
 
-    // `join` of a path that every address can be joined with: only memory can be wanting.
+    // `join` of a path that every address can be joined with: it fails only if memory runs out.
     pub(crate) fn join_path(&self, path: &str) -> Result<Address, AllocError>
         ensures { IfOk result (λ address. join_address self.now path.now ≡ Ok address) }
     {
@@ -158,7 +158,7 @@ impl Address {
         })
     }
 
-    /// The text of the address, as `http://h:81/a?b`. Reading it gives this address again.
+    /// The text of the address, such as `http://h:81/a?b`. Reading it gives this address again.
     pub fn as_str(&self) -> &str
         ensures value { result.now ≡ self.now }
         ensures ascii { IsAscii result.now }
@@ -181,8 +181,8 @@ impl Address {
         }
     }
 
-    /// Scheme, host and port, as `http://h:81`; the port is left out where it is the scheme's (URL
-    /// Standard, section 4.7).
+    /// Scheme, host and port, such as `http://h:81`; the port is left out if it is the scheme's (URL Standard,
+    /// section 4.7).
     pub fn origin(&self) -> &str
         ensures value { result.now ≡ origin_of self.now }
         ensures ascii { IsAscii result.now }
@@ -200,15 +200,15 @@ impl Address {
         http_url::host(self.url())
     }
 
-    /// The port, that of the scheme where the address names none (RFC 9110, sections 4.2.1 and 4.2.2).
+    /// The port, that of the scheme if the address names none (RFC 9110, sections 4.2.1 and 4.2.2).
     pub fn port(&self) -> u16
         ensures { result ≡ unwrap_or (port_of self.now) (scheme_port (scheme_of self.now)) }
     {
         self.url().port().unwrap_or(self.scheme().port())
     }
 
-    /// Host and port, as `h:81`: what the Host field of a request holds (RFC 9110, section 7.2). The
-    /// port is left out where it is the scheme's.
+    /// Host and port, such as `h:81`: what the Host field of a request holds (RFC 9110, section 7.2). The port is
+    /// left out if it is the scheme's.
     pub fn authority(&self) -> &str
         ensures value { result.now ≡ authority_of self.now }
         ensures ascii { IsAscii result.now }
@@ -216,7 +216,7 @@ impl Address {
         self.url().slice(Position::BeforeHost, Position::AfterPort)
     }
 
-    /// The path up to and with its last `/`, as `/a/` of `http://h/a/b?c`.
+    /// The path up to and with its last `/`, such as `/a/` of `http://h/a/b?c`.
     pub fn dir(&self) -> &str
         ensures value { result.now ≡ dir_of self.now }
         ensures ascii { IsAscii result.now }
@@ -225,7 +225,7 @@ impl Address {
         &path[..http_url::dir_len(path)]
     }
 
-    /// The path after its last `/`, as `b` of `http://h/a/b?c`; it may be empty.
+    /// The path after its last `/`, such as `b` of `http://h/a/b?c`; it may be empty.
     pub fn file(&self) -> &str
         ensures value { result.now ≡ file_of self.now }
         ensures ascii { IsAscii result.now }
@@ -234,7 +234,7 @@ impl Address {
         &path[http_url::dir_len(path)..]
     }
 
-    /// The path, and the query with its `?`, as `/a/b?c`: what a request asks for (RFC 9112,
+    /// The path, and the query with its `?`, such as `/a/b?c`: what a request names (RFC 9112,
     /// section 3.2.1).
     pub fn path_query(&self) -> &str
         ensures value { result.now ≡ path_query_of self.now }

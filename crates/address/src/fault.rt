@@ -2,9 +2,9 @@
 use thiserror::Error;
 use url::ParseError;
 
-/// Why a text is no address. Of several faults the first that holds is named, in the order of the
-/// variants, but that the result or its host is too long comes after `UserInfo`. Where memory is
-/// wanting, `Memory` may stand in the place of a fault that would be found later.
+/// Why a text is no address. Of several faults the first that holds is named, in the order of the variants, except
+/// that the result or its host is too long comes after `UserInfo`. If memory runs out, `Memory` may be in the place
+/// of a fault that would be found later.
 #[derive(Clone, Copy, Debug, PartialEq, Eq, Error)]
 pub enum AddressFault {
     /// The text that was handed in, or the address that it gives, is longer than
@@ -21,7 +21,7 @@ pub enum AddressFault {
     /// The URL has a user name or a password that isn't empty.
     #[error("the URL has a user name or a password")]
     UserInfo,
-    /// Memory is wanting.
+    /// Memory ran out.
     #[error("out of memory")]
     Memory,
 }

@@ -66,7 +66,7 @@ pub(crate) fn is_too_long(url: &Url) -> bool
     text(url).len() > MAX_ADDRESS || host(url).len() > MAX_HOST
 }
 
-// How many bytes of the path stand up to and with its last slash.
+// How many bytes the path has up to and with its last slash.
 pub(crate) fn dir_len(path: &str) -> usize
     ensures value { result ≡ dir_len path.now }
     ensures within { result ≤ length path.now }

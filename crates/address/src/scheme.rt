@@ -12,7 +12,7 @@ pub enum Scheme {
 }
 
 impl Scheme {
-    /// The scheme as it stands in front of an address.
+    /// The scheme as it is in front of an address.
     pub fn as_str(self) -> &'static str
         ensures { result.now ≡ scheme_text self }
     {

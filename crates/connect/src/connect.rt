@@ -15,7 +15,7 @@ pub enum ConnectFault {
     /// The origin's host has no address, or nobody there took the connection.
     #[error("no connection was made")]
     Failed,
-    /// Memory is wanting.
+    /// Memory ran out.
     #[error("out of memory")]
     Memory,
 }
@@ -28,13 +28,13 @@ impl From<AllocError> for ConnectFault {
 
 /// Makes connections, a new one at each call, and may keep those that serve again.
 ///
-/// A connection is given back only behind a response that leaves it usable (RFC 9112, section 9.3), and
+/// A connection is given back only after a response that leaves it usable (RFC 9112, section 9.3), and
 /// what is kept is given to one taker, for the origin that it was made for.
 pub trait Connect: Drop {
     /// A connection.
     type Wire: Wire + Drop;
 
-    // How many connections were asked for.
+    // How many connections were requested.
     ghost made: { Self → ℕ };
 
     // How many calls answered an error.
@@ -64,7 +64,7 @@ pub trait Connect: Drop {
         ensures taken { taken self.new ≡ taken self.old }
         ensures stands { Stays (stands self.old) (stands self.new) };
 
-    /// A connection to an origin that was kept, where there is one, over which nothing came since. It is
+    /// A connection to an origin that was kept, if there is one, over which nothing came since. It is
     /// kept no longer.
     fn take(&mut self, _of: &Origin) -> Option<Self::Wire>
         ensures given { IfSome result (λ wire. stands self.old _of.now wire) }
@@ -79,7 +79,7 @@ pub trait Connect: Drop {
         None
     }
 
-    /// Keeps a connection to an origin, behind a response that leaves it usable, or ends it.
+    /// Keeps a connection to an origin, after a response that leaves it usable, or ends it.
     fn give_back(&mut self, _of: &Origin, wire: Self::Wire)
         ensures made { made self.new ≡ made self.old }
         ensures failed { failed self.new ≡ failed self.old }

@@ -1,4 +1,4 @@
-//! Why a file is no cookie file: the line that is written in place of a report, and what a person is told.
+//! Why a file is no cookie file: the line that is written in place of a report, and what is reported to a person.
 ghost use Rattle.std.specs.Prelude.{◌≡◌, ◌++◌, IfOk, codes, string_bytes};
 ghost use Rattle.cookie_files.specs.Faults.{cookies_words};
 

@@ -75,7 +75,7 @@ pub(crate) fn domain_matches(subdomains: bool, domain: &[u8], host: &[u8]) -> bo
     host == domain || subdomains && (is_below(domain, host) && !is_ip_address(host))
 }
 
-/// Whether a cookie of this path goes to what is asked for.
+/// Whether a cookie of this path goes to what is requested.
 #[tactic(auto, unfolding(crate::specs::Matches::path_matches))]
 pub(crate) fn path_matches(path: &[u8], asked: &[u8]) -> bool
     ensures { result ≡ path_matches path.now asked.now }

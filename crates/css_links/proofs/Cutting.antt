@@ -16,7 +16,7 @@ use Rattle.css_links.specs.declared.place.Part.TheVariants.{Reference, Other}
 use Rattle.css_links.proofs.Moving.{Free, MoveAt, MoveAnew, MoveWith, MoveRefer, Move, moves}
 use Rattle.css_links.proofs.Keeping.{free_held, front_fed, open_in_zone, open_place}
 
--- behind `url(` no text has come
+-- after `url(` no text has come
 abbrev pub Unbegun : Zone → List ℕ → Type 0
 Unbegun zones.Outside raw = Unit
 Unbegun zones.Begun raw = raw ≡ []
@@ -85,7 +85,7 @@ at_cuts change zones.Ended zones.Ended f out white sheet b q m k = record {
 }
 at_cuts change _ _ f out white sheet b q m k = absurd m
 
--- a byte where nothing is held back, behind which nothing is
+-- a byte where nothing is held back, nor after it
 free_cuts : (change : Change) (zp zq : Zone) (f g : Front) (out white next sheet : List ℕ) (b : ℕ) → Free zp → g.seen.found ≡ f.seen.found → held_in zq g.raw next ≡ [] → Unbegun zq g.raw → Cuts change zp f out white sheet
     → Cuts change zq g (out ++ b ∷ []) next (sheet ++ b ∷ [])
 free_cuts change zp zq f g out white next sheet b free e h u k = record {
@@ -96,7 +96,7 @@ free_cuts change zp zq f g out white next sheet b free e h u k = record {
   unbegun = u;
 }
 
--- no text has come where one begins behind the byte
+-- no text has come where one begins after the byte
 nothing_held : (zq : Zone) (q : Place) (white : List ℕ) → MoveAnew zq q → held_in zq [] white ≡ []
 nothing_held zones.Outside q white m = refl
 nothing_held zones.Begun q white m = refl

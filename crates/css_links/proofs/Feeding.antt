@@ -7,7 +7,7 @@ pub fed-append : (s : Front) (xs ys : List ℕ) → fed s (xs ++ ys) ≡ fed (fe
 fed-append s [] ys = refl
 fed-append s (b ∷ bs) ys = fed-append (step s b) bs ys
 
--- where nothing is left of a piece, the front is the one before with the piece
+-- if nothing is left of a piece, the front is the one before with the piece
 pub fed_on : (old new : Front) (left piece front : List ℕ) → length left < 1 → fed new left ≡ fed old piece → old ≡ fed nothing_read front → new ≡ fed nothing_read (front ++ piece)
 fed_on old new [] piece front short e stands = e ∙ ap (λ s. fed s piece) stands ∙ sym (fed-append nothing_read front piece)
 fed_on old new (b ∷ bs) piece front short e stands = absurd (omega arith)

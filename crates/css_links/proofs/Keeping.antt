@@ -38,14 +38,14 @@ Good change (zones.Quoted quote) f out white = (is_quote quote ≡ true) × (fed
 Good change zones.Unquoted f out white = fed nothing_read out ≡ front UrlBegun [] (seen_anew change f.seen)
 Good change zones.Ended f out white = (fed nothing_read out ≡ front UrlBegun [] (seen_anew change f.seen)) × (list_all is_white white ≡ true)
 
--- what was written is read as the front, with its references changed, but for what is held back
+-- what was written is read as the front, with its references changed, except what is held back
 pub record Keeps (change : Change) (z : Zone) (f : Front) (out white : List ℕ) : Type 0 where
   pub behind : fed nothing_read (out ++ held_in z f.raw white) ≡ mapped change f
   pub good : Good change z f out white
 
 -- ---- one more byte
 
--- the byte behind all that is written and held back
+-- the byte after all that is written and held back
 read_on : (change : Change) (z : Zone) (f : Front) (out white : List ℕ) (b : ℕ) (t : Turn) → turn f.place f.raw b ≡ t → Keeps change z f out white
     → fed nothing_read ((out ++ held_in z f.raw white) ++ b ∷ []) ≡ turned (mapped change f) b t
 read_on change z f out white b t e k =
@@ -74,7 +74,7 @@ at_keeps change zones.Ended zones.Ended f out white b q e m k = record {
 }
 at_keeps change _ _ f out white b q e m k = absurd m
 
--- where nothing is held back
+-- if nothing is held back
 pub free_held : (z : Zone) (raw white : List ℕ) → Free z → held_in z raw white ≡ []
 free_held zones.Outside raw white h = refl
 free_held zones.Begun raw white h = refl
@@ -186,7 +186,7 @@ bare_white c e = rw (white_no_close c e, e) refl
 ended_white : (c : ℕ) → is_white c ≡ true → url_ended c ≡ At UrlEnded
 ended_white c e = rw e refl
 
--- white behind a bare URL, and then its `)`
+-- white after a bare URL, and then its `)`
 closes_ended : (raw : List ℕ) (found : Seen) (white : List ℕ) (b : ℕ) → list_all is_white white ≡ true → b ≡ 41
     → fed (front UrlEnded raw found) (white ++ b ∷ []) ≡ front Between [] (noted found (reference raw))
 closes_ended raw found [] b h m = ap (λ c. fed (front UrlEnded raw found) (c ∷ [])) m
@@ -218,7 +218,7 @@ stays_refer change zones.Ended f out white b e m k st =
     ap (λ t. fed nothing_read (out ++ (t ++ (white ++ b ∷ [])))) st.text ∙ ap (λ t. fed nothing_read (out ++ t)) (sym (append_assoc f.raw white (b ∷ [])))
     ∙ ap (fed nothing_read) (sym (append_assoc out (f.raw ++ white) (b ∷ []))) ∙ read_on change zones.Ended f out white b Refer e k
 
--- a written text behind what was written, and what follows it
+-- a written text after what was written, and what follows it
 anew_read : (out text rest : List ℕ) (p q : Place) (found : Seen) → fed nothing_read out ≡ front p [] found → LeadsOn p q text
     → fed nothing_read (out ++ (text ++ rest)) ≡ fed (front q text found) rest
 anew_read out text rest p q found e l =
@@ -279,7 +279,7 @@ url_quote_keeps change zp f out white b quote e free is k =
     let h = free_on change zp f out white b (UrlQuote quote) e free k in
     record { behind = ap (fed nothing_read) (append-nil (out ++ b ∷ [])) ∙ h; good = (is, h) }
 
--- a byte behind which nothing is held back
+-- a byte after which nothing is held back
 outside_keeps : (change : Change) (zp : Zone) (f : Front) (out white : List ℕ) (b : ℕ) (t : Turn) → turn f.place f.raw b ≡ t → Free zp → (g : Front) → turned (mapped change f) b t ≡ mapped change g
     → Keeps change zp f out white → Keeps change zones.Outside g (out ++ b ∷ []) white
 outside_keeps change zp f out white b t e free g same k = record { behind = ap (fed nothing_read) (append-nil (out ++ b ∷ [])) ∙ free_on change zp f out white b t e free k ∙ same; good = tt }

@@ -34,7 +34,7 @@ MoveAt zones.Unquoted zones.Ended q b = is_white b ≡ true
 MoveAt zones.Ended zones.Ended q b = is_white b ≡ true
 MoveAt _ _ q b = ⊥
 
--- to one where a text begins behind the byte
+-- to one where a text begins after the byte
 abbrev pub MoveAnew : Zone → Place → Type 0
 MoveAnew zones.Outside q = Unit
 MoveAnew zones.Begun q = q ≡ UrlBegun
@@ -132,7 +132,7 @@ bare_moves b =
 bad_moves : (z : Zone) (b : ℕ) → Move z b (bad b)
 bad_moves z b = if_move z b (b == 41) _ _ (λ _. tt) (λ _. if_move z b (b == 92) _ _ (λ _. tt) (λ _. tt))
 
--- behind `url(` no white ends a URL, since it was looked for before
+-- after `url(` no white ends a URL, since it was looked for before
 begun_bare_moves : (b : ℕ) → is_white b ≡ false → Move zones.Begun b (bare b)
 begun_bare_moves b white =
     if_move zones.Begun b (b == 41) _ _ (λ _. tt)

@@ -24,7 +24,7 @@ use Rattle.css_links.proofs.Searching.{until_from, end_is}
 
 -- ---- places that bytes leave as they are
 
--- bytes that lead to the place in which they stand
+-- bytes that lead to the place in which they are
 pub passed_at : (p : Place) (stops : ℕ → Bool) (r : List ℕ) (f : Seen) → ((b : ℕ) → stops b ≡ false → turn p r b ≡ At p)
     → (xs : List ℕ) → fed (front p r f) (from stops xs) ≡ fed (front p r f) xs
 passed_at p stops r f stays [] = refl
@@ -208,7 +208,7 @@ close_step p r f (inl e) h = rw e (ap (front Between r) (without_none f h))
 close_step p r f (inr (inl e)) h = rw e (ap (front Between r) (without_none f h))
 close_step p r f (inr (inr e)) h = rw e (ap (front Between r) (without_none f h))
 
--- a byte that isn't loud, nor a `)` where parentheses are counted
+-- a byte that isn't loud, nor a `)` if parentheses are counted
 abbrev IsQuiet : Seen → ℕ → Type 0
 IsQuiet f b = (is_loud b ≡ false) × ((b == 41) ≡ true → f.depth ≡ 0)
 

@@ -23,7 +23,7 @@ others : references (codes "/* url(a) */b{c:\"url(d)\" xurl(e) url (f) #url(g) @
 unfolding references unescaped
 others = refl
 
--- strings directly in an image set, in any case, under both names and with escapes; none within its functions, in others and behind it
+-- strings directly in an image set, in any case, under both names and with escapes; none within its functions, in others and after it
 sets : references (codes "a{b:image-set(\"c\" 1x, url(d) type(\"e\"), /**/'f' 2x) \"g\"} h{i:-WEBKIT-\\69 mage-set(url('j')'k') xset('l') @image-set('m') set('n')}")
     ≡ (((((shown (codes "c")) ++ shown (codes "d")) ++ shown (codes "f")) ++ shown (codes "j")) ++ shown (codes "k")) ++ []
 unfolding references unescaped lib.Utf8.encode

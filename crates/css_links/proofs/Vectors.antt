@@ -20,14 +20,14 @@ low_select : (t : Bool) (x : ℕ) → x ≡ cond t 255 0 → x < 128 → t ≡ f
 low_select true x e low = absurd (omega arith)
 low_select false x e low = refl
 
--- lanes that are set where bytes pass the comparison with one
+-- lanes that are set if bytes pass the comparison with one
 pub compared : (t : ℕ → ℕ → Bool) (bytes lanes : List ℕ) (x : ℕ) → HasLanes lanes (λ k. cond (t (get_or bytes k 0) x) 255 0) → Covers (λ b. t b x) bytes lanes
 compared t bytes lanes x h = record {
   long = h.long;
   each = λ k below low. low_select (t (get_or bytes k 0) x) (get_or lanes k 0) (h.each k below) low;
 }
 
--- lanes that are set where they are in one or the other
+-- lanes that are set if they are in one or the other
 pub joined : (f g : ℕ → Bool) (bytes one other lanes : List ℕ) → HasLanes lanes (λ k. bit_or (get_or one k 0) (get_or other k 0))
     → Covers f bytes one → Covers g bytes other → Covers (λ b. f b || g b) bytes lanes
 joined f g bytes one other lanes h p q = record {
@@ -61,7 +61,7 @@ clear_places stops text bytes lanes m at n h p marks short clear k low high pass
     let same : get_or bytes j 0 ≡ get_or text k 0 = h.each j below ∙ ap (λ i. get_or text i 0) (omega arith) in
     true≢false (sym passes ∙ ap stops (sym same) ∙ calm)
 
--- a bit that is set stands for a lane
+-- a bit that is set means a lane
 pub within_lanes : (lanes : List ℕ) (m k : ℕ) → length lanes ≡ 32 → ((k : ℕ) → (bit_at m k ≡ 1) ↔ (128 ≤ get_or lanes k 0)) → bit_at m k ≡ 1 → k < 32
 within_lanes lanes m k long marks set =
     ⊎_elim (λ low. low) (λ high. absurd (omega (arith, (marks k).0 set, get_or_past lanes k 0 (omega arith)))) (cases_lt k 32)

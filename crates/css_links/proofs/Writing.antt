@@ -142,7 +142,7 @@ leads_begun b w = escapes_lead UrlBegun (Inside Bare) b
     (λ e1 e2 e3 e4 e5. λ raw found. ap (turned (front UrlBegun raw found) b)
     (begun_goes_on b (white_false b w) (rw (e1, e2) refl) (bare_goes_on b e4 (white_false b w) e5 (unfit_false b w e1 e2 e3))))
 
--- one text behind another
+-- one text after another
 leads_both : (p q r : Place) (xs ys : List ℕ) → LeadsOn p q xs → LeadsOn q r ys → LeadsOn p r (xs ++ ys)
 leads_both p q r xs ys l m = λ raw found.
     fed-append (front p raw found) xs ys ∙ ap (λ s. fed s ys) (l raw found) ∙ m (raw ++ xs) found ∙ ap (λ t. front r t found) (append_assoc raw xs ys)

@@ -1,4 +1,4 @@
--- Classes of bytes (CSS Syntax Level 3, section 4.2). A byte above 127 is part of a code point that isn't ASCII, and NUL stands for U+FFFD.
+-- Classes of bytes (CSS Syntax Level 3, section 4.2). A byte above 127 is part of a code point that isn't ASCII, and NUL means U+FFFD.
 use Rattle.std.specs.Prelude.{ℕ, Bool, ◌||◌, ◌&&◌, List, map, nat_lt, ◌==◌}
 use Rattle.std.specs.Char.{to_ascii_lowercase, is_ascii_alphanumeric}
 

@@ -21,7 +21,7 @@ is_character n = if n == 0 then false else (nat_lt n 0xD800 || (nat_lt 0xDFFF n 
 abbrev pub character : ℕ → List ℕ
 character n = encode_utf8 (if is_character n then n else 0xFFFD)
 
--- a text that was read, and where in an escape its end stands
+-- a text that was read, and where in an escape it ends
 pub record Text : Type 0 where
   pub text : List ℕ
   pub reading : Reading
@@ -34,7 +34,7 @@ read t r = record { text = t; reading = r }
 abbrev pub plainly : List ℕ → ℕ → Text
 plainly t b = if b == 92 then read t Begun else read (t ++ b ∷ []) Plain
 
--- behind a backslash: a newline is left out, a hexadecimal digit begins a number, any other byte stands for itself
+-- after a backslash: a newline is left out, a hexadecimal digit begins a number, any other byte means itself
 abbrev pub begun : List ℕ → ℕ → Text
 begun t b =
     if b == 13 then read t Return
@@ -42,7 +42,7 @@ begun t b =
     else if is_ascii_hexdigit b then read t (Number 1 (digit b))
     else read (t ++ b ∷ []) Plain
 
--- behind a number: one white ends it and is left out
+-- after a number: one white ends it and is left out
 abbrev pub ended : List ℕ → ℕ → Text
 ended t b =
     if b == 13 then read t Return
@@ -55,7 +55,7 @@ numbered n value t b =
     if nat_lt n 6 && is_ascii_hexdigit b then read t (Number (n + 1) (with_digit value b))
     else ended (t ++ character value) b
 
--- behind a carriage return that was left out, with its line feed
+-- after a carriage return that was left out, with its line feed
 abbrev pub returned : List ℕ → ℕ → Text
 returned t b = if b == 10 then read t Plain else plainly t b
 
@@ -66,7 +66,7 @@ read_in Begun t b = begun t b
 read_in (Number n value) t b = numbered n value t b
 read_in Return t b = returned t b
 
--- what the text says, at its end: a number that stands there counts
+-- what the text says, at its end: a number that is there counts
 abbrev pub whole_in : Reading → List ℕ → List ℕ
 whole_in Plain t = t
 whole_in Begun t = t

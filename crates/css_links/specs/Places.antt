@@ -1,4 +1,4 @@
--- Places in a style sheet: where the next byte stands, and what it changes (CSS Syntax Level 3, section 4.3, narrowed to
+-- Places in a style sheet: where the next byte is, and what it changes (CSS Syntax Level 3, section 4.3, narrowed to
 -- comments, words, strings, URLs and functions; CSS Cascading and Inheritance, section 2, for `@import`; CSS Images Module
 -- Level 4, section 2.4, for `image-set`).
 use Rattle.std.specs.Prelude.{ℕ, ◌+◌, Bool, false, ◌&&◌, ◌||◌, List, nat_lt, if◌then◌else◌, ◌==◌, codes}
@@ -42,18 +42,18 @@ between b =
     else if is_name b then First (Inside (Word lead.Nothing))
     else At Between
 
--- behind a `/` (section 4.3.2)
+-- after a `/` (section 4.3.2)
 abbrev pub slash : ℕ → Turn
 slash b = if b == 42 then At Comment else between b
 
--- in a comment, and there behind a `*`
+-- in a comment, after a `*`
 abbrev pub comment : ℕ → Turn
 comment b = if b == 42 then At CommentStar else At Comment
 
 abbrev pub comment_star : ℕ → Turn
 comment_star b = if b == 47 then At Between else comment b
 
--- behind `@import`: white, comments, and then perhaps a string that is a reference
+-- after `@import`: white, comments, and then perhaps a string that is a reference
 abbrev pub import : ℕ → Turn
 import b =
     if is_white b then At Import
@@ -70,11 +70,11 @@ import_comment b = if b == 42 then At ImportCommentStar else At ImportComment
 abbrev pub import_comment_star : ℕ → Turn
 import_comment_star b = if b == 47 then At Import else import_comment b
 
--- behind a word and `(`: `url(` begins a URL, any other word is the name of a function (section 4.3.4)
+-- after a word and `(`: `url(` begins a URL, any other word is the name of a function (section 4.3.4)
 abbrev pub function : List ℕ → Turn
 function raw = if is_word (codes "url") raw then Anew UrlBegun else Open (is_set raw)
 
--- behind a word
+-- after a word
 abbrev pub behind_word : Lead → List ℕ → ℕ → Turn
 behind_word lead.Nothing raw b = if b == 40 then function raw else between b
 behind_word lead.Hash raw b = between b
@@ -118,14 +118,14 @@ bad b =
     else if b == 92 then At (Escaped Bad Begun)
     else At (Inside Bad)
 
--- behind `url(` and white: in quotes or bare
+-- after `url(` and white: in quotes or bare
 abbrev pub url_begun : ℕ → Turn
 url_begun b =
     if is_white b then At UrlBegun
     else if is_quote b then UrlQuote b
     else bare b
 
--- behind a URL without quotes and white
+-- after a URL without quotes and white
 abbrev pub url_ended : ℕ → Turn
 url_ended b =
     if is_white b then At UrlEnded
@@ -142,7 +142,7 @@ inside Bad raw b = bad b
 
 -- ---- escapes
 
--- the place, with the byte put to the part's text, where that is kept
+-- the place, with the byte put to the part's text, if that is kept
 abbrev pub put : Part → Place → Turn
 put (Word l) p = With p
 put (Reference quote) p = With p
@@ -150,11 +150,11 @@ put (Other quote) p = At p
 put Bare p = With p
 put Bad p = At p
 
--- a newline in a string, behind a backslash: it is left out
+-- a newline in a string, after a backslash: it is left out
 abbrev pub continued : Part → ℕ → Turn
 continued part b = if b == 13 then put part (Escaped part Return) else put part (Inside part)
 
--- a newline behind a backslash: no escape, but in a string (section 4.3.8)
+-- a newline after a backslash: no escape, except in a string (section 4.3.8)
 abbrev pub broken : Part → ℕ → Turn
 broken (Word l) b = At Between
 broken (Reference quote) b = continued (Reference quote) b
@@ -162,14 +162,14 @@ broken (Other quote) b = continued (Other quote) b
 broken Bare b = At (Inside Bad)
 broken Bad b = At (Inside Bad)
 
--- behind a backslash (section 4.3.7)
+-- after a backslash (section 4.3.7)
 abbrev pub escape_begun : Part → ℕ → Turn
 escape_begun part b =
     if is_newline b then broken part b
     else if is_ascii_hexdigit b then put part (Escaped part (Digits 1))
     else put part (Inside part)
 
--- behind a number of at most six digits: a white belongs to it
+-- after a number of at most six digits: a white belongs to it
 abbrev pub escape_digits : Part → ℕ → List ℕ → ℕ → Turn
 escape_digits part n raw b =
     if nat_lt n 6 && is_ascii_hexdigit b then put part (Escaped part (Digits (n + 1)))
@@ -177,7 +177,7 @@ escape_digits part n raw b =
     else if is_white b then put part (Inside part)
     else inside part raw b
 
--- behind a carriage return in an escape
+-- after a carriage return in an escape
 abbrev pub escape_return : Part → List ℕ → ℕ → Turn
 escape_return part raw b = if b == 10 then put part (Inside part) else inside part raw b
 
@@ -189,7 +189,7 @@ escaped part Return raw b = escape_return part raw b
 
 -- ---- all places
 
--- what a byte does in a place, behind that text of a word, string or URL
+-- what a byte does in a place, after that text of a word, string or URL
 abbrev pub turn : Place → List ℕ → ℕ → Turn
 turn Between raw b = between b
 turn Slash raw b = slash b

@@ -29,16 +29,16 @@ front p r s = record { place = p; raw = r; seen = s }
 abbrev pub noted : Seen → List (List ℕ) → Seen
 noted s more = record { found = s.found ++ more; depth = s.depth }
 
--- The depth behind a `(`, which may be that of an image set. Nothing is counted outside of image sets, and one within another, which
+-- The depth after a `(`, which may be that of an image set. Nothing is counted outside of image sets, and one within another, which
 -- can't be, is any function.
 abbrev pub opened : Bool → ℕ → ℕ
 opened set depth = if depth == 0 then (if set then 1 else 0) else depth + 1
 
--- behind such a `(`
+-- after such a `(`
 abbrev pub within : Bool → Seen → Seen
 within set s = record { found = s.found; depth = opened set s.depth }
 
--- behind a `)`
+-- after a `)`
 abbrev pub without : Seen → Seen
 without s = record { found = s.found; depth = s.depth - 1 }
 
@@ -75,7 +75,7 @@ step s b = turned s b (turn s.place s.raw b)
 abbrev pub nothing_read : Front
 nothing_read = front Between [] (record { found = []; depth = 0 })
 
--- a front with these bytes behind it
+-- a front with these bytes after it
 abbrev pub fed : Front → List ℕ → Front
 fed s [] = s
 fed s (b ∷ bs) = fed (step s b) bs

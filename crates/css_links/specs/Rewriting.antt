@@ -1,4 +1,4 @@
--- A sheet with other references: what stands outside of the references that change is as before, byte by byte.
+-- A sheet with other references: what is outside of the references that change is as before, byte by byte.
 use Rattle.std.specs.Prelude.{◌≡◌, ◌≢◌, ℕ, ◌<◌, List, [], ◌∷◌, ◌++◌, Option, Some, None, All, codes, if◌then◌else◌, ◌==◌}
 use Rattle.std.specs.List.{flat_map}
 use Rattle.std.specs.Str.Lossy.{utf8_lossy}
@@ -40,7 +40,7 @@ pub record IsWritable (text : List ℕ) : Type 0 where
   pub bytes : All IsWritableByte text
   pub utf8 : utf8_lossy text ≡ text
 
--- what references become: another text, or nothing where they stay
+-- what references become: another text, or nothing if they stay
 abbrev pub Change : Type 0
 Change = List ℕ → Option (List ℕ)
 
@@ -64,12 +64,12 @@ abbrev pub written_or : List ℕ → Option (List ℕ) → List ℕ
 written_or raw None = raw
 written_or raw (Some other) = written other
 
--- the same of the text of which it is the reference, where that isn't empty
+-- the same of the text of which it is the reference, if that isn't empty
 abbrev pub anew_of : Change → List ℕ → List (List ℕ) → List ℕ
 anew_of change raw [] = raw
 anew_of change raw (text ∷ others) = written_or raw (change text)
 
--- a text as it is written, changed where it is a reference
+-- a text as it is written, changed if it is a reference
 abbrev pub anew : Change → List ℕ → List ℕ
 anew change raw = anew_of change raw (reference raw)
 
@@ -96,7 +96,7 @@ zone (Escaped part escape) = part_zone part
 zone UrlBegun = Begun
 zone UrlEnded = Ended
 
--- the front of a sheet, what is written of it, and the white behind a bare URL; what may be a reference isn't written yet
+-- the front of a sheet, what is written of it, and the white after a bare URL; what may be a reference isn't written yet
 pub record Rewrite : Type 0 where
   pub front : Front
   pub out : List ℕ
@@ -114,7 +114,7 @@ held_in Ended raw white = raw ++ white
 abbrev pub held : Rewrite → List ℕ
 held w = held_in (zone w.front.place) w.front.raw w.white
 
--- the white that is held back behind a bare URL
+-- the white that is held back after a bare URL
 abbrev pub white_in : Zone → List ℕ → List ℕ
 white_in Outside white = []
 white_in Begun white = []
@@ -122,7 +122,7 @@ white_in (Quoted quote) white = []
 white_in Unquoted white = []
 white_in Ended white = white
 
--- what is written when a byte leads to a place in that zone: nothing where it is white behind a bare URL
+-- what is written when a byte leads to a place in that zone: nothing if it is white after a bare URL
 abbrev pub out_at : Zone → List ℕ → List ℕ → ℕ → List ℕ
 out_at Outside out held b = out ++ (held ++ b ∷ [])
 out_at Begun out held b = out ++ (held ++ b ∷ [])
@@ -138,7 +138,7 @@ white_at (Quoted quote) from white b = white
 white_at Unquoted from white b = white
 white_at Ended from white b = white_in from white ++ b ∷ []
 
--- what is written when the text goes on with a byte in that zone: nothing where it may be a reference
+-- what is written when the text goes on with a byte in that zone: nothing if it may be a reference
 abbrev pub out_with : Zone → List ℕ → ℕ → List ℕ
 out_with Outside out b = out ++ b ∷ []
 out_with Begun out b = out ++ b ∷ []
@@ -182,7 +182,7 @@ rewrite_step change w b = record {
 abbrev pub nothing_written : Rewrite
 nothing_written = record { front = nothing_read; out = []; white = [] }
 
--- with these bytes behind it
+-- with these bytes after it
 abbrev pub rewrite_fed : Change → Rewrite → List ℕ → Rewrite
 rewrite_fed change w [] = w
 rewrite_fed change w (b ∷ bs) = rewrite_fed change (rewrite_step change w b) bs
@@ -220,7 +220,7 @@ abbrev pub references_of : Piece → List (List ℕ)
 references_of (Bytes bytes) = []
 references_of (Value raw) = reference raw
 
--- its bytes where references change, and nothing else does
+-- its bytes, with references changed and nothing else
 abbrev pub bytes_anew : Change → Piece → List ℕ
 bytes_anew change (Bytes bytes) = bytes
 bytes_anew change (Value raw) = anew change raw

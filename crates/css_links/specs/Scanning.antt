@@ -1,4 +1,4 @@
--- What a scanner stands for: the front of a sheet that it was fed.
+-- What a scanner represents: the front of a sheet that it was fed.
 use Rattle.std.specs.Prelude.{◌≡◌, ℕ, Bool, false, List, ◌++◌}
 use Rattle.css_links.specs.References.{Seen, Front, front, fed, nothing_read}
 use Rattle.css_links.specs.Rewriting.{Change, Rewrite, nothing_written, rewrite_fed}

@@ -5,10 +5,10 @@ use std::alloc::AllocError;
 
 /// What references become: another text, or the same.
 pub trait Change {
-    // What a reference of that text becomes; nothing where it stays.
+    // What a reference of that text becomes; nothing if it stays.
     ghost becomes: { Self → List ℕ → Option (List ℕ) };
 
-    /// What a reference of that text becomes; nothing where it stays. The error is want of memory.
+    /// What a reference of that text becomes; nothing if it stays. Fails only if memory runs out.
     fn change(&self, text: &str) -> Result<Option<String>, AllocError>
         ensures { IfOk result (λ other. option_map string_bytes other ≡ becomes self.now text.now) };
 }

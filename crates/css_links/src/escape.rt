@@ -10,15 +10,15 @@ use bstr::ByteVec;
 use memchr::memchr;
 use std::alloc::{AllocError, Global};
 
-/// Where in an escape the next byte stands.
+/// Where in an escape the next byte is.
 #[derive(Clone, Copy)]
 pub(crate) enum Reading {
     Plain,
-    /// Behind the backslash.
+    /// After the backslash.
     Begun,
-    /// Behind that many hexadecimal digits, with the number that they say.
+    /// After that many hexadecimal digits, with the number that they say.
     Number(u8, u32),
-    /// Behind a carriage return that was left out: a line feed belongs to it.
+    /// After a carriage return that was left out: a line feed belongs to it.
     Return,
 }
 
@@ -158,7 +158,7 @@ fn returned(text: &mut Vec<u8>, byte: u8) -> Result<Reading, AllocError>
     plainly(text, byte)
 }
 
-// Puts down a number that stands at the end.
+// Puts down a number that is at the end.
 fn end(text: &mut Vec<u8>, reading: Reading) -> Result<(), AllocError>
     ensures { OnOk result (text.new.items ≡ whole_in reading text.old.items) }
 {

@@ -85,7 +85,7 @@ impl Machine {
         Ok(left)
     }
 
-    // Between tokens: passes over words and what stands between them, and keeps the last word.
+    // Between tokens: passes over words and what is between them, and keeps the last word.
     fn quiet_run<'a>(&mut self, text: &'a [u8]) -> Result<&'a [u8], AllocError>
         ensures gives { IfOk result (λ left. fed (front_of self.new) left.now ≡ fed (front places.Between self.old.raw.items (seen_of self.old)) text.now) }
         ensures shorter { IfOk result (λ left. length left.now ≤ length text.now) }
@@ -169,7 +169,7 @@ impl Machine {
         Ok(())
     }
 
-    // Notes the text as a reference, where it isn't empty.
+    // Notes the text as a reference, if it isn't empty.
     fn note(&mut self) -> Result<(), AllocError>
         ensures found { OnOk result (self.new.found.items ≡ self.old.found.items ++ reference self.old.raw.items) }
         ensures raw { self.new.raw.items ≡ self.old.raw.items }
@@ -218,7 +218,7 @@ impl Machine {
     }
 }
 
-// The depth behind a `(`, which may be that of an image set. The error is more than 2^64 of them, for which there is no memory.
+// The depth after a `(`, which may be that of an image set. The error is more than 2^64 of them, for which there is no memory.
 fn opened(set: bool, depth: u64) -> Result<u64, AllocError>
     ensures { IfOk result (λ d. d ≡ opened set depth) }
 {

@@ -1,6 +1,6 @@
 //! Places in a style sheet (CSS Syntax Level 3, section 4.3).
 
-/// What a word stands behind.
+/// What comes before a word.
 #[derive(Clone, Copy)]
 pub(crate) enum Lead {
     Nothing,
@@ -23,38 +23,38 @@ pub(crate) enum Part {
     Bad,
 }
 
-/// Where in an escape the next byte stands.
+/// Where in an escape the next byte is.
 #[derive(Clone, Copy)]
 pub(crate) enum Escape {
-    /// Behind the backslash.
+    /// After the backslash.
     Begun,
-    /// Behind that many hexadecimal digits.
+    /// After that many hexadecimal digits.
     Digits(u8),
-    /// Behind a carriage return: a line feed belongs to it.
+    /// After a carriage return: a line feed belongs to it.
     Return,
 }
 
-/// Where in the sheet the next byte stands.
+/// Where in the sheet the next byte is.
 #[derive(Clone, Copy)]
 pub(crate) enum Place {
     /// Between words, strings, URLs and comments.
     Between,
-    /// Behind a `/`.
+    /// After a `/`.
     Slash,
     Comment,
-    /// In a comment, behind `*`.
+    /// In a comment, after `*`.
     CommentStar,
-    /// Behind `@import`, white and comments.
+    /// After `@import`, white and comments.
     Import,
-    /// There, behind a `/`.
+    /// There, after a `/`.
     ImportSlash,
     ImportComment,
     ImportCommentStar,
     Inside(Part),
     Escaped(Part, Escape),
-    /// Behind `url(` and white.
+    /// After `url(` and white.
     UrlBegun,
-    /// Behind a URL without quotes and white.
+    /// After a URL without quotes and white.
     UrlEnded,
 }
 
@@ -63,7 +63,7 @@ pub(crate) enum Place {
 pub(crate) enum Turn {
     /// It leads to that place.
     At(Place),
-    /// A text begins behind it.
+    /// A text begins after it.
     Anew(Place),
     /// A text begins with it.
     First(Place),
@@ -71,9 +71,9 @@ pub(crate) enum Turn {
     With(Place),
     /// It ends the text, which is a reference.
     Refer,
-    /// A string between such quotes begins behind it: a reference directly in an image set.
+    /// A string between such quotes begins after it: a reference directly in an image set.
     Quote(u8),
-    /// A string between such quotes begins behind it that is a reference, in the function `url`.
+    /// A string between such quotes begins after it that is a reference, in the function `url`.
     UrlQuote(u8),
     /// It opens a function or a parenthesis; whether that of an image set.
     Open(bool),

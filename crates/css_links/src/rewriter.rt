@@ -15,7 +15,7 @@ use crate::zone::{Zone, zone_of};
 use std::alloc::{AllocError, Global};
 use std::mem;
 
-/// How far a sheet was written anew: what was read, what was written, and the white that is held back behind a bare URL.
+/// How far a sheet was written anew: what was read, what was written, and the white that is held back after a bare URL.
 #[derive(Drop)]
 pub(crate) struct Rewriter {
     alloc: Global,
@@ -24,7 +24,7 @@ pub(crate) struct Rewriter {
     white: Vec<u8>,
 }
 
-// Puts a byte down as it stands in a string or bare URL.
+// Puts a byte down as it is in a string or bare URL.
 fn push_written_byte(out: &mut Vec<u8>, byte: u8) -> Result<(), AllocError>
     ensures { OnOk result (out.new.items ≡ out.old.items ++ written_byte byte) }
 {
@@ -45,7 +45,7 @@ fn push_written_byte(out: &mut Vec<u8>, byte: u8) -> Result<(), AllocError>
     }
 }
 
-// Puts a text down as it stands in a string or bare URL.
+// Puts a text down as it is in a string or bare URL.
 fn push_written(out: &mut Vec<u8>, text: &[u8]) -> Result<(), AllocError>
     ensures { OnOk result (out.new.items ≡ out.old.items ++ written text.now) }
 {
@@ -129,7 +129,7 @@ impl Rewriter {
         }
     }
 
-    // Writes what a byte that leads to a place makes ready, and holds white behind a bare URL back.
+    // Writes what a byte that leads to a place makes ready, and holds white after a bare URL back.
     fn write_at(&mut self, place: Place, byte: u8) -> Result<(), AllocError>
         ensures out { OnOk result (self.new.out.items ≡ rewriting.out_at (rewriting.zone place) self.old.out.items (rewriting.held (rewrite_of self.old)) byte) }
         ensures white { OnOk result (self.new.white.items ≡ rewriting.white_at (rewriting.zone place) (rewriting.zone self.old.machine.place) self.old.white.items byte) }
@@ -285,12 +285,12 @@ impl Rewriter {
     }
 }
 
-/// A style sheet with its references changed, all other bytes as they were. Where every text that the change makes can
+/// A style sheet with its references changed, all other bytes as they were. If every text that the change makes can
 /// be a reference (it isn't empty, and its bytes are visible), the references of the new sheet are those of the old
 /// one, changed, in their order.
 ///
 /// # Errors
-/// `Memory` where a growth is refused.
+/// `Memory` if a growth is refused.
 pub fn rewrite<C: Change>(alloc: Global, change: &C, sheet: &[u8]) -> Result<Vec<u8>, Memory>
     ensures sheet { IfOk result (λ out. out.items ≡ rewritten (C.becomes change.now) sheet.now) }
     // No byte outside of references is another.

@@ -54,7 +54,7 @@ impl Scanner {
     /// Reads the next piece of the sheet, of any length, which may end anywhere.
     ///
     /// # Errors
-    /// `Memory` where a growth is refused. Every later call of `feed` and `finish` then answers `Memory`
+    /// `Memory` if a growth is refused. Every later call of `feed` and `finish` then answers `Memory`
     /// too, and reads nothing.
     pub fn feed(&mut self, piece: &[u8]) -> Result<(), Memory>
         ensures ok { OnOk result ((front : List ℕ) → StandsFor self.old front → StandsFor self.new (front ++ piece.now)) }
@@ -81,7 +81,7 @@ impl Scanner {
     /// The references of the sheet whose pieces were fed, in its order.
     ///
     /// # Errors
-    /// `Memory` where a `feed` answered it, or a growth is refused.
+    /// `Memory` if a `feed` answered it, or a growth is refused.
     pub fn finish(self) -> Result<Vec<Found>, Memory>
         ensures ok { IfOk result (λ found. (sheet : List ℕ) → StandsFor self sheet → found.items ≡ references sheet) }
         ensures front { IfOk result (λ found. found.items ≡ ended self.front) }
@@ -98,7 +98,7 @@ impl Scanner {
 /// The references of a whole sheet, in its order.
 ///
 /// # Errors
-/// `Memory` where a growth is refused.
+/// `Memory` if a growth is refused.
 pub fn scan(alloc: Global, sheet: &[u8]) -> Result<Vec<Found>, Memory>
     ensures { IfOk result (λ found. found.items ≡ references sheet.now) }
 {

@@ -49,7 +49,7 @@ impl SheetRewriter {
     /// Reads the next piece of the sheet, of any length, which may end anywhere.
     ///
     /// # Errors
-    /// `Memory` where a growth is refused. Every later call of `feed` and `finish` then answers `Memory` too.
+    /// `Memory` if a growth is refused. Every later call of `feed` and `finish` then answers `Memory` too.
     pub fn feed<C: Change>(&mut self, change: &C, piece: &[u8]) -> Result<(), Memory>
         ensures ok { OnOk result ((sheet taken : List ℕ) → Rewrites (C.becomes change.now) self.old sheet taken → Rewrites (C.becomes change.now) self.new (sheet ++ piece.now) taken) }
         ensures err { OnErr result (self.new.failed ≡ true) }
@@ -77,7 +77,7 @@ impl SheetRewriter {
     /// The rest of the new sheet.
     ///
     /// # Errors
-    /// `Memory` where a `feed` answered it, or a growth is refused.
+    /// `Memory` if a `feed` answered it, or a growth is refused.
     pub fn finish<C: Change>(self, change: &C) -> Result<Vec<u8>, Memory>
         ensures ok { IfOk result (λ rest. (sheet taken : List ℕ) → Rewrites (C.becomes change.now) self sheet taken → taken ++ rest.items ≡ rewritten (C.becomes change.now) sheet) }
         ensures failed { self.failed ≡ true → IfOk result (λ _. ⊥) }

@@ -13,11 +13,11 @@ use std::simd::prelude::*;
 /// A part of a style sheet that a class of bytes ends.
 #[derive(Clone, Copy)]
 pub(crate) enum Span {
-    /// Words, and what stands between them.
+    /// Words, and what is between them.
     Quiet,
-    /// The same in an image set, where parentheses are counted.
+    /// The same in an image set, in which parentheses are counted.
     InSet,
-    /// What stands between words there, but for `#`.
+    /// What is between words there, except `#`.
     Plain,
     /// Bytes of a name.
     Name,

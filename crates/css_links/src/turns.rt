@@ -10,7 +10,7 @@ use crate::escape::{has_escape, unescaped};
 use crate::place::{Escape, Lead, Part, Place, Turn};
 use std::alloc::{AllocError, Global};
 
-/// What a byte does in a place, behind that text of a word, string or URL. The error is want of memory.
+/// What a byte does in a place, after that text of a word, string or URL. Fails only if memory runs out.
 pub(crate) fn turn(alloc: Global, place: Place, raw: &[u8], byte: u8) -> Result<Turn, AllocError>
     ensures { IfOk result (λ t. t ≡ places.turn place raw.now byte) }
 {
@@ -182,7 +182,7 @@ fn behind_name(alloc: Global, raw: &[u8], byte: u8) -> Result<Turn, AllocError>
     function(alloc, raw)
 }
 
-// Behind the name of a function and `(`.
+// After the name of a function and `(`.
 fn function(alloc: Global, raw: &[u8]) -> Result<Turn, AllocError>
     ensures { IfOk result (λ t. t ≡ places.function raw.now) }
 {
@@ -193,7 +193,7 @@ fn function(alloc: Global, raw: &[u8]) -> Result<Turn, AllocError>
     Ok(named_function(&name))
 }
 
-// Behind the name of a function, in which escapes were replaced, and `(`.
+// After the name of a function, in which escapes were replaced, and `(`.
 fn named_function(name: &[u8]) -> Turn
     ensures { (raw : List ℕ) → name.now ≡ unescaped raw → result ≡ places.function raw }
 {
@@ -297,7 +297,7 @@ fn url_ended(byte: u8) -> Turn
     }
 }
 
-// Goes to a place, with the byte put to the part's text, where that is kept.
+// Goes to a place, with the byte put to the part's text, if that is kept.
 fn put(part: Part, place: Place) -> Turn
     ensures { result ≡ places.put part place }
 {

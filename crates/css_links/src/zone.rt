@@ -9,13 +9,13 @@ use crate::place::{Part, Place};
 pub(crate) enum Zone {
     /// In none of these.
     Outside,
-    /// Behind `url(` and white.
+    /// After `url(` and white.
     Begun,
     /// In a string between such quotes that may be a reference.
     Quoted(u8),
     /// In a URL without quotes.
     Unquoted,
-    /// Behind such a URL and white.
+    /// After such a URL and white.
     Ended,
 }
 

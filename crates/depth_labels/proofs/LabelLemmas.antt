@@ -110,7 +110,7 @@ at_written (entry ∷ depths) u d = go (bytes_eq u entry.0) refl (at_written dep
 other_text : (u v : AddressText) → bytes_eq u v ≡ true → (w : AddressText) → bytes_eq w u ≡ false → bytes_eq w v ≡ false
 other_text u v e w f = rw (← (bytes_eq-Decides u v).0 e) f
 
--- what two tables say alike they say alike behind an entry
+-- what two tables say alike they say alike after an entry
 behind : (entry : AddressText × ℕ) (old new : List (AddressText × ℕ)) (v : AddressText) → depth_at new v ≡ depth_at old v → depth_at (entry ∷ new) v ≡ depth_at (entry ∷ old) v
 behind entry old new v e = go (bytes_eq v entry.0) refl
   where

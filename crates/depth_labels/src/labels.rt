@@ -64,7 +64,7 @@ impl Labels {
 
     /// Offers a depth for an address: a new address is held at it, a lesser depth lowers a held one, and any other changes nothing.
     ///
-    /// The refusals are `Full`, where the address is new and as many are held as may be, and `Memory`; an address that is held is never refused. A
+    /// The refusals are `Full`, if the address is new and as many are held as may be, and `Memory`; an address that is held is never refused. A
     /// refused offer changes nothing.
     pub fn offer(&mut self, address: &Address, depth: u32) -> Result<Offer, LabelFault>
         ensures ok { IfOk result (λ offer. offer ≡ offer_of (depth_at self.old.depths address.now) depth) }
@@ -106,7 +106,7 @@ impl Labels {
 
     /// Makes room for one new address among at most `max`, which is the most that may be held from then on.
     ///
-    /// The refusals are `Full`, where `max` are held, and `Memory`. No address and no depth changes.
+    /// The refusals are `Full`, if `max` are held, and `Memory`. No address and no depth changes.
     pub fn reserve(&mut self, max: u32) -> Result<(), LabelFault>
         requires { length self.old.depths ≤ max }
         ensures ok { OnOk result (0 < self.new.room) }
@@ -124,7 +124,7 @@ impl Labels {
         }
     }
 
-    /// Holds a new address at this depth, where there is room. Takes no memory.
+    /// Holds a new address at this depth, if there is room. Takes no memory.
     pub fn add(&mut self, address: Address, depth: u32)
         requires new { depth_at self.old.depths address ≡ None }
         requires few { length self.old.depths < self.old.most }
@@ -189,7 +189,7 @@ impl Labels {
     }
 }
 
-// Lowers the depth of the address of this number to the offered one, where that is less.
+// Lowers the depth of the address of this number to the offered one, if that is less.
 fn lower(table: &mut IndexMap<Address, u32>, number: usize, depth: u32) -> Offer
     requires { number < length table.old.entries }
     ensures offer { (held : ℕ) → slice_get (map (λ entry. entry.1) table.old.entries) number ≡ Some held → result ≡ offer_of (Some held) depth }

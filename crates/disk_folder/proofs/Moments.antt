@@ -8,7 +8,7 @@ module _ {D : Type 0} (moment : D → ℕ) (since : D → ℕ → List ℕ → O
   pub at_rest : (name : List ℕ) (disk : D) (P : Option (List ℕ) → Type 0) → ((c : Option (List ℕ)) → left disk name c → P c) → LeavesOnly moment since name disk disk P
   at_rest name disk P here = record { later = omega arith; each = λ c s. here c (only_now disk name c s); before = λ t c le s. inl s }
 
-  -- one call more, behind which a crash leaves what has P
+  -- one call more, after which a crash leaves what has P
   pub goes_on : (name : List ℕ) (old mid new : D) (P : Option (List ℕ) → Type 0) → LeavesOnly moment since name old mid P → Elapses (moment mid) (moment new) (since mid) (since new) (left new)
       → ((c : Option (List ℕ)) → left new name c → P c) → LeavesOnly moment since name old new P
   goes_on name old mid new P so_far time here = record {
@@ -22,7 +22,7 @@ module _ {D : Type 0} (moment : D → ℕ) (since : D → ℕ → List ℕ → O
       → ((c : Option (List ℕ)) → left old name c → P c) → ((c : Option (List ℕ)) → left new name c → P c) → LeavesOnly moment since name old new P
   one_call name old new P time before behind = goes_on name old old new P (at_rest name old P before) time behind
 
--- one run behind another
+-- one run after another
 pub and_then : {D : Type 0} (moment : D → ℕ) (since : D → ℕ → List ℕ → Option (List ℕ) → Type 0) (name : List ℕ) (old mid new : D) (P Q R : Option (List ℕ) → Type 0)
     → LeavesOnly moment since name old mid P → LeavesOnly moment since name mid new Q → ((c : Option (List ℕ)) → P c → R c) → ((c : Option (List ℕ)) → Q c → R c) → LeavesOnly moment since name old new R
 and_then moment since name old mid new P Q R first second p q = record {

@@ -1,4 +1,4 @@
--- What the calls of a disk do to the files that stand under names, and what a crash may leave of them.
+-- What the calls of a disk do to the files under names, and what a crash may leave of them.
 use Rattle.std.specs.Prelude.{◌≡◌, ◌⊎◌, ◌≤◌, ℕ, List, [], ◌∷◌, ◌++◌, Option, Some, None, Vec}
 use Rattle.std.specs.declared.alloc.Global.{Global}
 
@@ -18,7 +18,7 @@ pub record IsTorn (base tail bytes : List ℕ) : Type 0 where
 abbrev pub AreTorn : List ℕ → List ℕ → (List ℕ → Type 0) → Type 0
 AreTorn base tail kept = (x : List ℕ) → kept x → IsTorn base tail x
 
--- behind what wasn't synced there is more
+-- after what wasn't synced there is more
 abbrev pub Adds : List ℕ → List ℕ → List ℕ → (List ℕ → Type 0) → (List ℕ → Type 0) → Type 0
 Adds base tail bytes old new = AreTorn base tail old → AreTorn base (tail ++ bytes) new
 

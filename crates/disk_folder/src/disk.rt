@@ -1,4 +1,4 @@
-// What is known of a disk is told by relations, so that one which tells nothing meets each clause: that of the system.
+// What is known of a disk is stated by relations, so that one of which nothing is known meets each clause: that of the system.
 ghost use Rattle.std.specs.Prelude.{◌≡◌, ◌≢◌, ◌⊎◌, ◌≤◌, ◌++◌, [], ℕ, List, Option, Some, None, IfOk, OnOk};
 ghost use Rattle.disk_folder.specs.Disks.{Adds, Elapses, HasBytes};
 
@@ -9,7 +9,7 @@ use std::alloc::{AllocError, AllocFailed, Global};
 pub enum DiskError {
     /// Memory ran out.
     Memory,
-    /// Something stands there, or nothing does.
+    /// Something is there, or nothing is.
     Name,
     /// The disk failed, or is full.
     Failed,
@@ -35,22 +35,22 @@ impl<T: Drop> From<AllocFailed<T>> for DiskError {
 /// there, or zeros in their place, up to any length; those that were synced are there. A name that was given, or taken, has what it
 /// had before or what it has now, until the names are synced. Between files there is no order.
 pub trait Disk: Drop {
-    /// It tells what it holds. The system's disk tells nothing.
+    /// What it holds is known. Of the system's disk nothing is.
     ghost tells: { Type 0 };
 
     /// The file of this name is known to be the open one.
     ghost opened: { Self → List ℕ → Type 0 };
 
-    /// This is known to stand under a name: a file's bytes, or none.
+    /// This is known to be under a name: a file's bytes, or none.
     ghost seen: { Self → List ℕ → Option (List ℕ) → Type 0 };
 
     /// The name is known to be on the disk, so that a crash leaves this file under it.
     ghost named: { Self → List ℕ → Type 0 };
 
-    /// A crash now may leave this under a name in place of the file that stands there: what stood there when it got the name.
+    /// A crash now may leave this under a name in place of the file that is there: what was there when it got the name.
     ghost stale: { Self → List ℕ → Option (List ℕ) → Type 0 };
 
-    /// A crash now may leave these bytes of the file that stands there.
+    /// A crash now may leave these bytes of the file that is there.
     ghost kept: { Self → List ℕ → List ℕ → Type 0 };
 
     /// A crash now may leave this under a name.
@@ -62,7 +62,7 @@ pub trait Disk: Drop {
     /// A crash at some moment from that one on may have left this under a name, during a call or between two.
     ghost since: { Self → ℕ → List ℕ → Option (List ℕ) → Type 0 };
 
-    /// Makes a file without bytes, where nothing stands, and opens it.
+    /// Makes a file without bytes, where nothing is, and opens it.
     fn make(&mut self, name: &str) -> Result<(), DiskError>
         ensures made { tells → OnOk result (opened self.new name.now × seen self.new name.now (Some [])) }
         ensures kept_made { OnOk result ((x : List ℕ) → kept self.new name.now x → x ≡ []) }
@@ -75,7 +75,7 @@ pub trait Disk: Drop {
         ensures others_stale { (n : List ℕ) (c : Option (List ℕ)) → n ≢ name.now → stale self.new n c → stale self.old n c }
         ensures time { Elapses (moment self.old) (moment self.new) (since self.old) (since self.new) (left self.new) };
 
-    /// Opens a file that stands there, to add to it.
+    /// Opens a file that is there, to add to it.
     fn reopen(&mut self, name: &str) -> Result<(), DiskError>
         ensures opens { tells → OnOk result (opened self.new name.now) }
         ensures seen { (n : List ℕ) (c : Option (List ℕ)) → seen self.old n c → seen self.new n c }
@@ -85,7 +85,7 @@ pub trait Disk: Drop {
         ensures stale { (n : List ℕ) (c : Option (List ℕ)) → stale self.new n c → stale self.old n c }
         ensures time { Elapses (moment self.old) (moment self.new) (since self.old) (since self.new) (left self.new) };
 
-    /// Adds bytes to the open file, by one call. Where it fails, some of them may have been added, and nothing is known to be open.
+    /// Adds bytes to the open file, by one call. If it fails, some of them may have been added, and nothing is known to be open.
     fn add(&mut self, bytes: &[u8]) -> Result<(), DiskError>
         ensures added { OnOk result ((n x : List ℕ) → opened self.old n → seen self.old n (Some x) → seen self.new n (Some (x ++ bytes.now))) }
         ensures stays_open { OnOk result ((n : List ℕ) → opened self.old n → opened self.new n) }
@@ -97,7 +97,7 @@ pub trait Disk: Drop {
         ensures stale { (n : List ℕ) (c : Option (List ℕ)) → stale self.new n c → stale self.old n c }
         ensures time { Elapses (moment self.old) (moment self.new) (since self.old) (since self.new) (left self.new) };
 
-    /// Brings the bytes of the open file onto the disk. Where it fails, nothing is known of them any more.
+    /// Brings the bytes of the open file onto the disk. If it fails, nothing is known of them any more.
     fn sync(&mut self) -> Result<(), DiskError>
         ensures durable { OnOk result ((n x y : List ℕ) → opened self.old n → seen self.old n (Some x) → kept self.new n y → y ≡ x) }
         ensures seen { OnOk result ((n : List ℕ) (c : Option (List ℕ)) → seen self.old n c → seen self.new n c) }
@@ -119,7 +119,7 @@ pub trait Disk: Drop {
         ensures stale { (n : List ℕ) (c : Option (List ℕ)) → stale self.new n c → stale self.old n c }
         ensures time { Elapses (moment self.old) (moment self.new) (since self.old) (since self.new) (left self.new) };
 
-    /// Gives a file another name, in the place of what stands there. No file is open behind it.
+    /// Gives a file another name, in the place of what is there. No file is open after it.
     fn rename(&mut self, from: &str, to: &str) -> Result<(), DiskError>
         requires { from.now ≢ to.now }
         ensures moved { OnOk result ((x : List ℕ) → seen self.old from.now (Some x) → seen self.new to.now (Some x)) }
@@ -135,7 +135,7 @@ pub trait Disk: Drop {
         ensures others_stale { (n : List ℕ) (c : Option (List ℕ)) → n ≢ from.now → n ≢ to.now → stale self.new n c → stale self.old n c }
         ensures time { Elapses (moment self.old) (moment self.new) (since self.old) (since self.new) (left self.new) };
 
-    /// Removes a file. No file is open behind it.
+    /// Removes a file. No file is open after it.
     fn remove(&mut self, name: &str) -> Result<(), DiskError>
         ensures gone { tells → OnOk result (seen self.new name.now None) }
         ensures others { (n : List ℕ) (c : Option (List ℕ)) → n ≢ name.now → seen self.old n c → seen self.new n c }
@@ -146,7 +146,7 @@ pub trait Disk: Drop {
         ensures others_stale { (n : List ℕ) (c : Option (List ℕ)) → n ≢ name.now → stale self.new n c → stale self.old n c }
         ensures time { Elapses (moment self.old) (moment self.new) (since self.old) (since self.new) (left self.new) };
 
-    /// What stands under a name. Changes nothing that is known.
+    /// What is under a name. Changes nothing that is known.
     fn read(&mut self, alloc: Global, name: &str) -> Result<Option<Vec<u8>>, DiskError>
         ensures bytes { IfOk result (λ found. (x : List ℕ) → seen self.old name.now (Some x) → HasBytes x found) }
         ensures none { IfOk result (λ found. seen self.old name.now None → found ≡ None) }
@@ -157,13 +157,13 @@ pub trait Disk: Drop {
         ensures stale { (n : List ℕ) (c : Option (List ℕ)) → stale self.new n c → stale self.old n c }
         ensures time { Elapses (moment self.old) (moment self.new) (since self.old) (since self.new) (left self.new) };
 
-    /// Only a disk that tells what it holds is known to hold anything.
+    /// Only a disk whose contents are known is known to hold anything.
     ghost told: { (disk : Self) (n : List ℕ) (c : Option (List ℕ)) → seen disk n c → tells };
 
-    /// Where the name is on the disk, a crash leaves the file's bytes.
+    /// If the name is on the disk, a crash leaves the file's bytes.
     ghost leaves_named: { (disk : Self) (n : List ℕ) (c : Option (List ℕ)) → named disk n → left disk n c → (x : List ℕ) × (c ≡ Some x) × kept disk n x };
 
-    /// Where a file stands, a crash leaves its bytes, or what stood there before.
+    /// If a file is there, a crash leaves its bytes, or what was there before.
     ghost leaves_seen: { (disk : Self) (n b : List ℕ) (c : Option (List ℕ)) → seen disk n (Some b) → left disk n c → stale disk n c ⊎ ((x : List ℕ) × (c ≡ Some x) × kept disk n x) };
 
     /// This moment is one of those since an earlier one.

@@ -1,4 +1,4 @@
-//! A folder of a disk, as a store sees it: what its calls do to the files that stand under names, and what a crash may leave.
+//! A folder of a disk, as a store sees it: what its calls do to the files under names, and what a crash may leave.
 #![tactic(auto)]
 
 mod disk;

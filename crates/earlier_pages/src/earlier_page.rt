@@ -11,7 +11,7 @@ use std::alloc::{AllocError, Global};
 use std::io::Read;
 use std::marker::Model;
 
-/// A page of an earlier run whose file has the bytes that it had.
+/// A page of an earlier run whose file has as many bytes as it had.
 #[derive(Drop)]
 pub struct EarlierPage<'a, F: Read + Drop> {
     alloc: Global,

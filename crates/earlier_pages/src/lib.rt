@@ -1,6 +1,5 @@
-//! Pages that an earlier run left in a folder. Its one idea: nothing that its index says is trusted: a page is there only if its file has
-//! the very bytes that it had, by their number and SHA-256. What a disk holds no clause says: who reads a page again computes its digest
-//! once more. The program doesn't use it yet, and no test is of it.
+//! Pages that an earlier run left in a folder. Its one idea: a page of an earlier run is read like a response. It is there if its file has
+//! as many bytes as it had; whether they are the same, who reads it finds out by their SHA-256, so that no file is read twice.
 //!
 //! ```
 //! let Some(page) = earlier.page(rt, &at) else { .. }; // to be requested as if nothing was there

@@ -18,7 +18,7 @@ nothing_more zero xs = refl
 nothing_more (suc n) [] = refl
 nothing_more (suc n) (x ∷ xs) = nothing_more n xs
 
--- the line feed behind a line
+-- the line feed after a line
 pub step_line : (bytes : List ℕ) (w i : ℕ) → i < length bytes → w ≤ i → get_or bytes i 0 ≡ 10
     → take w bytes ++ text (lines_from (drop w (take i bytes)) (drop i bytes)) ≡ take (i + 1) bytes ++ text (lines_from (drop (i + 1) (take (i + 1) bytes)) (drop (i + 1) bytes))
 step_line bytes w i within le is = rw add-one

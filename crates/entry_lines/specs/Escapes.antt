@@ -9,7 +9,7 @@ abbrev pub escaped : List ℕ → List ℕ
 escaped [] = []
 escaped (x ∷ xs) = written x ++ escaped xs
 
--- what a byte behind a backslash stands for
+-- what a byte after a backslash means
 abbrev pub meant : ℕ → ℕ
 meant c = if c == 48 then 0 else (if c == 110 then 10 else (if c == 115 then 32 else c))
 

@@ -11,21 +11,21 @@ abbrev pub AreEntries : List (List ℕ) → Type 0
 AreEntries [] = Unit {0}
 AreEntries (e ∷ es) = ArePlain e × AreEntries es
 
--- each entry, and a line feed behind it
+-- each entry, and a line feed after it
 abbrev pub text : List (List ℕ) → List ℕ
 text [] = []
 text (e ∷ es) = e ++ 10 ∷ text es
 
--- the whole lines, the first of which began so; a line with a zero is none, nor is one without a line feed, and nothing behind it counts
+-- the whole lines, the first of which began so; a line with a zero is none, nor is one without a line feed, and nothing after it counts
 abbrev pub lines_from : List ℕ → List ℕ → List (List ℕ)
 lines_from begun [] = []
 lines_from begun (x ∷ xs) = if x == 0 then [] else (if x == 10 then begun ∷ lines_from [] xs else lines_from (begun ++ x ∷ []) xs)
 
--- the entries that bytes stand for
+-- the entries that bytes represent
 abbrev pub recovered : List ℕ → List (List ℕ)
 recovered bytes = lines_from [] bytes
 
--- these entries, and a front of those behind them
+-- these entries, and a front of those after them
 pub record IsFrontOf (done added : List (List ℕ)) (entries : List (List ℕ)) : Type 0 where
   pub count : ℕ
   pub no_more : count ≤ length added

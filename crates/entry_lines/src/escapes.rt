@@ -5,7 +5,7 @@ ghost use Rattle.entry_lines.specs.Lines.{ArePlain};
 
 use std::alloc::{AllocError, Global};
 
-/// Bytes without a zero, a line feed and a space that stand for these.
+/// Bytes without a zero, a line feed and a space that represent these.
 pub fn escape(alloc: Global, bytes: &[u8]) -> Result<Vec<u8>, AllocError>
     ensures escaped { IfOk result (λ v. v.items ≡ escaped bytes.now) }
     ensures plain { IfOk result (λ v. ArePlain v.items) }
@@ -26,7 +26,7 @@ pub fn escape(alloc: Global, bytes: &[u8]) -> Result<Vec<u8>, AllocError>
     Ok(out)
 }
 
-/// The bytes that these stand for.
+/// The bytes that these represent.
 pub fn unescape(alloc: Global, bytes: &[u8]) -> Result<Vec<u8>, AllocError>
     ensures read { IfOk result (λ v. v.items ≡ read_back bytes.now) }
     // What was escaped is read back.

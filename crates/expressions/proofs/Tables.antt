@@ -1,4 +1,4 @@
--- How tables of sets of states grow, and what a walk over one tells.
+-- How tables of sets of states grow, and what a walk over one shows.
 use Rattle.std.proofs.Common.{◌≡◌, ℕ, ◌+◌, ◌-◌, ◌<◌, ◌≤◌, Bool, false, cond, not, List, [], ◌∷◌, Vec, length, vec_len, slice_get, slice_index, slice_index_or, slice_set, is_some, Some, None, refl, sym, ap, ◌∙◌, subst, ⊎_elim, arith}
 use Rattle.std.proofs.lemmas.Bool.{cases_lt, cases_eq, ne_eqb}
 use Rattle.std.proofs.lemmas.List.{get_or-map, get_or-set_same, get_or-set_other}
@@ -109,7 +109,7 @@ cells_more nfa before after from byte number row more is inside cell cells b bel
 
 -- ---- walks
 
--- the row of a place's set tells whether a match begins there
+-- the row of a place's set says whether a match begins there
 pub row_begins : (nfa : Nfa) (sets : List (Vec Bool Global)) (text : List ℕ) (at number : ℕ) (row : Row) → IsRow nfa sets number row → AreFlags nfa text at (set_at sets number) → at ≤ length text →
     begins_from nfa text (at + 1) ≡ false → row.begins ≡ begins_from nfa text at
 row_begins nfa sets text at number row its flags inside none =

@@ -1,4 +1,4 @@
--- Tags and attributes that no rule asks for give nothing. No proof names an element or an attribute, so that a row of the link table
+-- Tags and attributes that no rule names give nothing. No proof names an element or an attribute, so that a row of the link table
 -- changes none.
 use Rattle.std.proofs.Common.{◌≡◌, ℕ, Bool, true, false, ◌||◌, List, [], ◌∷◌, ◌++◌, Option, Some, None, if◌then◌else◌, refl, sym, ◌∙◌, ap, arith, append-nil}
 use Rattle.std.proofs.lemmas.Grind.{flat_map-append}
@@ -172,7 +172,7 @@ none_holds false false c h = record { first = refl; second = refl; third = h }
 none_holds false true c h = absurd (cc)
 none_holds true b c h = absurd (cc)
 
--- a tag that no rule asks for has the links of its style alone
+-- a tag that no rule names has the links of its style alone
 record IsPlain (tag : Tag) : Type 0 where
   links : links_of tag ≡ styling_links tag.attributes
   base : base_of tag ≡ None
@@ -278,6 +278,6 @@ nofollow_asked (FromTag tag ∷ others) = go (is_asked_element tag.name) refl (n
   go true e g = all_nofollow tag.name (kept_of tag.attributes) (asked others) ∙ rw (nofollow_kept tag, g) refl
   go false e g = styled_nofollow tag.name (asked_attributes wanted.Style tag.attributes) (asked others) e ∙ g ∙ rw (plain tag e).nofollow refl
 
--- what the tags that a rule asks for add is what all add
+-- what the tags that a rule names add is what all add
 pub with_asked : (found : Links) (tags : List Source) → with_tags found (asked tags) ≡ with_tags found tags
 with_asked found tags = rw (base_asked tags, links_asked tags, nofollow_asked tags) refl

@@ -17,7 +17,7 @@ lengths_differ name other h = go (bytes_eq name other) refl where
   go true e = absurd (h (ap length ((bytes_eq-Decides name other).0 e)))
   go false e = refl
 
--- the names of attributes that a rule names are asked for
+-- the names of attributes that a rule names are kept
 pub asked_is_asked : (n : AskedName) → is_asked_attribute (asked_name n) ≡ true
 asked_is_asked n = grind arith
 

@@ -49,7 +49,7 @@ pub fewer : (scopes : List Scope) → is_html_within (innermost scopes) ≡ fals
 fewer [] h = absurd (cc)
 fewer (s ∷ scopes) h = omega arith
 
--- where the rules of HTML hold no tag ends foreign content
+-- if the rules of HTML hold, no tag ends foreign content
 pub not_broken : (name : List ℕ) (k : Context) → reads_html k ≡ true → broken name k ≡ k
 unfolding broken
 not_broken name k h = go (list_any (λ b. bytes_eq name b) breakouts) (within (is_xml k.syntax) h) where

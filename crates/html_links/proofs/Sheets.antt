@@ -80,7 +80,7 @@ sheet_over k s (b ∷ bs) rest = go (b == 60) refl (sheet_over k (step s b) bs r
     other : (b == 60) ≡ false → b ≡ 60 → ⊥
     other e is = grind (arith, is)
 
--- ---- behind a part of `</style`
+-- ---- after a part of `</style`
 
 fed_more : (s : Front) (xs : List ℕ) (b : ℕ) → fed s (xs ++ b ∷ []) ≡ step (fed s xs) b
 fed_more s [] b = refl

@@ -74,7 +74,7 @@ other_relations : map (λ rel. related (Some rel)) (codes "dns-prefetch" ∷ cod
     ≡ None ∷ None ∷ Some kind.Link ∷ Some kind.Link ∷ Some kind.Link ∷ []
 other_relations = refl
 
--- an `input` is shown where it is an image
+-- an `input` is shown if it is an image
 buttons : map (λ word. pressed (Some word)) (codes "image" ∷ codes "IMAGE" ∷ codes "text" ∷ codes "" ∷ []) ≡ Some kind.Inline ∷ Some kind.Inline ∷ None ∷ None ∷ []
 buttons = refl
 
@@ -140,7 +140,7 @@ raw = refl
 abbrev reference : ℕ → List ℕ → Option Reference
 reference character rest = Some (record { character = character; rest = rest })
 
--- what stands behind an `&`
+-- what follows an `&`
 references : map reference_at (codes "amp;lt;" ∷ codes "lt;" ∷ codes "gt;x" ∷ codes "quot;" ∷ codes "#65;" ∷ codes "#xE9;" ∷ codes "#X1F600;" ∷ codes "#0000065;" ∷ [])
     ≡ reference 38 (codes "lt;") ∷ reference 60 [] ∷ reference 62 (codes "x") ∷ reference 34 [] ∷ reference 65 [] ∷ reference 233 []
     ∷ reference 128512 [] ∷ reference 65 [] ∷ []
@@ -203,7 +203,7 @@ name_of (FromSheet _) = []
 abbrev names : Syntax → List ℕ → List (List ℕ)
 names s text = flat_map name_of (start_tags (outermost s) text)
 
--- in foreign content no element begins raw text, until it ends, in an integration point, or behind a tag that ends it
+-- in foreign content no element begins raw text, until it ends, in an integration point, or after a tag that ends it
 foreign : map (names syntax.Html) (codes "<svg><style><a></svg><style><a>" ∷ codes "<svg><desc><style><a>" ∷ codes "<svg><desc/><style><a>" ∷ codes "<math><mi><style><a></style></mi><style><a>" ∷ codes "<svg><p><style><a>" ∷ codes "<svg></p><style><a>" ∷ codes "<script/><a>" ∷ [])
     ≡ (codes "svg" ∷ codes "style" ∷ codes "a" ∷ codes "style" ∷ []) ∷ (codes "svg" ∷ codes "desc" ∷ codes "style" ∷ [])
     ∷ (codes "svg" ∷ codes "desc" ∷ codes "style" ∷ codes "a" ∷ []) ∷ (codes "math" ∷ codes "mi" ∷ codes "style" ∷ codes "style" ∷ codes "a" ∷ [])

@@ -81,7 +81,7 @@ given wanted.Style name (a ∷ others) = FromTag (record { name = name; attribut
 given wanted.All name [] = []
 given wanted.All name (a ∷ others) = FromTag (record { name = name; attributes = a ∷ others }) ∷ []
 
--- the tags that a rule asks for, with their attributes that a rule names, and the style sheets
+-- the tags that a rule names, with their attributes that a rule names, and the style sheets
 abbrev pub asked : List Source → List Source
 asked [] = []
 asked (FromSheet references ∷ others) = FromSheet references ∷ asked others

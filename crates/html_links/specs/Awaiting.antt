@@ -1,4 +1,4 @@
--- The value that comes next, if it has links by what came of its tag (HTML Standard, sections 13.1.2.3 and 13.2.5.35).
+-- The value that comes next, if it has links by the part of its tag that came (HTML Standard, sections 13.1.2.3 and 13.2.5.35).
 use Rattle.std.specs.Prelude.{◌≡◌, ℕ, ◌≤◌, Bool, true, false, ◌&&◌, List, [], ◌∷◌, ◌++◌, Option, Some, None, length, if◌then◌else◌, codes}
 use Rattle.std.specs.Str.{bytes_eq}
 use Rattle.html_links.specs.Pieces.{Attribute, from, is_not_white}

@@ -24,7 +24,7 @@ without_passed text = filter (λ b. not (is_passed b)) text
 abbrev pub read : List ℕ → List ℕ
 read text = without_passed (from (nat_lt 32) text)
 
--- what a scheme may have behind its first letter: letters, digits, `+`, `-` and `.` (RFC 3986, section 3.1)
+-- what a scheme may have after its first letter: letters, digits, `+`, `-` and `.` (RFC 3986, section 3.1)
 abbrev pub is_scheme_byte : ℕ → Bool
 is_scheme_byte b = is_ascii_alphanumeric b || b == 43 || b == 45 || b == 46
 

@@ -9,7 +9,7 @@ ghost use Rattle.html_links.specs.inner.Rows.{names_with};
 use crate::bytes::is_name;
 use crate::table::{has_row, rows_for};
 
-/// Whether a rule asks for elements of that name.
+/// Whether a rule names elements of that name.
 #[tactic(auto, unfolding(crate::specs::Asked::is_asked_element))]
 pub(crate) fn is_asked_element(name: &[u8]) -> bool
     ensures { result ≡ is_asked_element name.now }
@@ -17,7 +17,7 @@ pub(crate) fn is_asked_element(name: &[u8]) -> bool
     is_name(name, b"base") || is_name(name, b"meta") || has_row(rows_for(name), name)
 }
 
-/// An attribute that a rule asks for.
+/// An attribute that a rule names.
 #[derive(Clone, Copy)]
 pub(crate) enum AskedName {
     Href,
@@ -256,7 +256,7 @@ impl Wanted {
         }
     }
 
-    /// The attribute of that name, where it is kept.
+    /// The attribute of that name, if it is kept.
     #[tactic(auto, using(crate::proofs::Names::asked_is_asked))]
     pub(crate) fn attribute(self, name: &[u8]) -> Option<AskedName>
         ensures { MatchOption result (is_wanted self name.now ≡ false) (λ n. (name.now ≡ asked_name n) × (is_wanted self name.now ≡ true)) }

@@ -1,4 +1,4 @@
-//! How the value that comes next is read, by the link table and what came of its tag.
+//! How the value that comes next is read, by the link table and the part of its tag that came.
 ghost use Rattle.std.specs.Prelude.{◌≡◌, ◌++◌, true, false, List, option_map};
 ghost use Rattle.html_links.specs.Asked.{asked_name};
 ghost use Rattle.html_links.specs.Links.{link_table, kind_in};

@@ -74,7 +74,7 @@ impl Span {
         }
     }
 
-    /// A text cut before the first byte that ends the part; whole, where there is none.
+    /// A text cut before the first byte that ends the part; whole, if there is none.
     pub(crate) fn split(self, text: &[u8]) -> (&[u8], &[u8])
         ensures front { result.0.now ≡ until (ends_span self) text.now }
         ensures left { result.1.now ≡ from (ends_span self) text.now }
@@ -89,7 +89,7 @@ impl Span {
     }
 }
 
-/// A text cut before the first such byte; whole, where there is none.
+/// A text cut before the first such byte; whole, if there is none.
 pub(crate) fn split_at_byte(byte: u8, text: &[u8]) -> (&[u8], &[u8])
     ensures front { result.0.now ≡ until (is byte) text.now }
     ensures left { result.1.now ≡ from (is byte) text.now }
@@ -101,7 +101,7 @@ pub(crate) fn split_at_byte(byte: u8, text: &[u8]) -> (&[u8], &[u8])
     }
 }
 
-/// A text from the first such byte on; nothing, where there is none.
+/// A text from the first such byte on; nothing, if there is none.
 pub(crate) fn from_byte(byte: u8, text: &[u8]) -> &[u8]
     ensures left { result.now ≡ from (is byte) text.now }
     ensures shorter { length result.now ≤ length text.now }

@@ -31,7 +31,7 @@ fn push_escaped_byte(value: &mut Vec<u8>, byte: u8) -> Result<(), AllocError>
 /// one, and it ends where it is to end.
 ///
 /// # Errors
-/// `Memory` where a growth is refused.
+/// `Memory` if a growth is refused.
 pub fn escape(alloc: Global, text: &[u8]) -> Result<Vec<u8>, Memory>
     ensures value { IfOk result (λ value. value.items ≡ escaped text.now) }
     ensures text { IfOk result (λ value. referenced value.items ≡ text.now) }

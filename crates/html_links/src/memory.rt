@@ -1,4 +1,4 @@
-//! Want of memory.
+//! Out of memory.
 use std::alloc::AllocError;
 use std::error::Error;
 use std::fmt;

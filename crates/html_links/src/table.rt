@@ -22,11 +22,11 @@ pub(crate) enum Form {
     Shown,
     /// What the `rel` of the same tag says.
     Related,
-    /// A part of the page, where the `type` of the same tag is `image`.
+    /// A part of the page, if the `type` of the same tag is `image`.
     Button,
     /// The URLs of a source set, parts of the page.
     Set,
-    /// Another document, by a refresh, where the `http-equiv` of the same tag says so.
+    /// Another document, by a refresh, if the `http-equiv` of the same tag says so.
     Refresh,
 }
 

@@ -43,7 +43,7 @@ pub record Fetching (C : Type 0) : Type 0 where
 abbrev pub with_condition : Option Condition → Option Sending → Option Sending
 with_condition condition sends = option_map (λ (s : Sending). record s { condition = condition }) sends
 
--- an address that is asked for, which links of a page are taken, whether the connection is to be kept, what is sent, and how long the
+-- an address that is requested, which links of a page are taken, whether the connection is to be kept, what is sent, and how long the
 -- response may be
 pub record Question : Type 0 where
   pub at : AddressText

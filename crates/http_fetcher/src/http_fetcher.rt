@@ -853,12 +853,12 @@ impl<C: Connect> HttpFetcher<C> {
     ) -> Result<Answer<K::Kept>, AllocError>
         ensures asked { OnOk result (self.new.asks ≡ self.old.asks ++ ask.Page at.now ∷ []) }
         ensures refused { OnErr result (GainedAtMost self.old.asks self.new.asks (ask.Page at.now)) }
-        // No connection is asked for before the ask is logged.
+        // No connection is made before the request is logged.
         ensures first { OnErr result ((C.made self.new.connect ≡ C.made self.old.connect) ⊎ (self.new.asks ≡ self.old.asks ++ ask.Page at.now ∷ [])) }
         ensures links { self.new.links ≡ self.old.links }
         ensures keeps { self.new.keeps ≡ self.old.keeps }
         ensures sends { self.new.sends ≡ self.old.sends }
-        // The answer is what came over one connection behind its own request. Where none are kept, one is asked for.
+        // The answer is what came over one connection after its own request. If none are kept, one is made.
         ensures one { self.old.keeps ≡ false → OnOk result (C.made self.new.connect ≡ counted (C.made self.old.connect) 1) }
         ensures most { C.made self.new.connect ≤ C.made self.old.connect + 1 }
         ensures told { IfOk result (λ a. StandsForOne K.holds a (IsToldByTries C.Connect C.Wire.Wire (limited limits) self.old self.new at.now)) }
@@ -892,12 +892,12 @@ impl<C: Connect> Fetcher for HttpFetcher<C> {
     fn ask(&mut self, at: &Address) -> Result<Answer<Body>, AllocError>
         ensures asked { OnOk result (self.new.asks ≡ self.old.asks ++ ask.Page at.now ∷ []) }
         ensures refused { OnErr result (GainedAtMost self.old.asks self.new.asks (ask.Page at.now)) }
-        // No connection is asked for before the ask is logged.
+        // No connection is made before the request is logged.
         ensures first { OnErr result ((C.made self.new.connect ≡ C.made self.old.connect) ⊎ (self.new.asks ≡ self.old.asks ++ ask.Page at.now ∷ [])) }
         ensures links { self.new.links ≡ self.old.links }
         ensures keeps { self.new.keeps ≡ self.old.keeps }
         ensures sends { self.new.sends ≡ self.old.sends }
-        // The answer is what came over one connection behind its own request. Where none are kept, one is asked for.
+        // The answer is what came over one connection after its own request. If none are kept, one is made.
         ensures one { self.old.keeps ≡ false → OnOk result (C.made self.new.connect ≡ counted (C.made self.old.connect) 1) }
         ensures most { C.made self.new.connect ≤ C.made self.old.connect + 1 }
         ensures told { IfOk result (IsToldByTries C.Connect C.Wire.Wire standard self.old self.new at.now) }
@@ -918,7 +918,7 @@ impl<C: Connect> Fetcher for HttpFetcher<C> {
     fn ask_robots(&mut self, of: &Origin) -> Result<RuleSet, AllocError>
         ensures asked { OnOk result (self.new.asks ≡ self.old.asks ++ ask.Rules of.now ∷ []) }
         ensures refused { OnErr result (GainedAtMost self.old.asks self.new.asks (ask.Rules of.now)) }
-        // No connection is asked for before the ask is logged.
+        // No connection is made before the request is logged.
         ensures first { OnErr result ((C.made self.new.connect ≡ C.made self.old.connect) ⊎ (self.new.asks ≡ self.old.asks ++ ask.Rules of.now ∷ [])) }
         ensures links { self.new.links ≡ self.old.links }
         ensures keeps { self.new.keeps ≡ self.old.keeps }
@@ -954,7 +954,7 @@ impl<C: Connect> Telling for HttpFetcher<C> {
     fn ask_told(&mut self, at: &Address) -> Result<Told, AllocError>
         ensures asked { OnOk result (self.new.asks ≡ self.old.asks ++ ask.Page at.now ∷ []) }
         ensures refused { OnErr result (GainedAtMost self.old.asks self.new.asks (ask.Page at.now)) }
-        // No connection is asked for before the ask is logged.
+        // No connection is made before the request is logged.
         ensures first { OnErr result ((C.made self.new.connect ≡ C.made self.old.connect) ⊎ (self.new.asks ≡ self.old.asks ++ ask.Page at.now ∷ [])) }
         ensures links { self.new.links ≡ self.old.links }
         ensures keeps { self.new.keeps ≡ self.old.keeps }
@@ -976,7 +976,7 @@ impl<C: Connect> Telling for HttpFetcher<C> {
     fn ask_hops(&mut self, of: &Origin) -> Result<Hops, AllocError>
         ensures asked { OnOk result (self.new.asks ≡ self.old.asks ++ ask.Rules of.now ∷ []) }
         ensures refused { OnErr result (GainedAtMost self.old.asks self.new.asks (ask.Rules of.now)) }
-        // No connection is asked for before the ask is logged.
+        // No connection is made before the request is logged.
         ensures first { OnErr result ((C.made self.new.connect ≡ C.made self.old.connect) ⊎ (self.new.asks ≡ self.old.asks ++ ask.Rules of.now ∷ [])) }
         ensures links { self.new.links ≡ self.old.links }
         ensures keeps { self.new.keeps ≡ self.old.keeps }

@@ -5,8 +5,8 @@ ghost use Rattle.kept_bodies.specs.Bodies.{BodyValue, no_body};
 use crate::body_kind::BodyKind;
 use std::alloc::AllocError;
 
-/// Keeps bodies of responses, one after another, each while it arrives. What a keeper can't keep it tells by the body that it
-/// hands out; its calls fail only if memory runs out.
+/// Keeps bodies of responses, one after another, each while it arrives. What a keeper can't keep it reports by the body that
+/// it hands out; its calls fail only if memory runs out.
 pub trait Keeper: Drop {
     /// A body that was kept, or what represents it.
     type Kept: Drop;

@@ -4,7 +4,7 @@ ghost use Rattle.streams.specs.Streams.{AppendsFront};
 
 /// Takes the log of the links that filters reject, at the end of a run.
 pub trait RejectedLog {
-    // What it has taken, if it tells that.
+    // What it has taken, if that is known.
     ghost contents: { Self → Option (List ℕ) };
 
     /// Takes the whole log. If that fails it may have a front of it.

@@ -206,11 +206,11 @@ all_down (s ∷ ss) leads bytes =
     All-cons IsDown s ss (record { leads = All-head LeadsDown s ss leads; bytes = All-head (All (λ x. x < 256)) s ss bytes })
     (all_down ss (All-tail LeadsDown s ss leads) (All-tail (All (λ x. x < 256)) s ss bytes))
 
--- What is written for a file leads to it, from wherever it stands.
+-- What is written for a file leads to it, from wherever it is.
 pub resolve_relative : (from to : List ℕ) → All (λ x. x < 256) to → IsLocal to → resolve from (relative from to) ≡ to
 resolve_relative from to small local = resolves from to (all_down (slice_split is_slash to) local (segments_bytes to small))
 
--- ---- what is written can stand in each language as it is
+-- ---- what is written can be in each language as it is
 
 link_byte : (b : ℕ) → IsPartByte b → IsLinkByte b
 link_byte b e = go (is_unreserved b) (b == 37) (b == 47) e where

@@ -29,18 +29,18 @@ walk at (one ∷ others) =
     else if bytes_eq one (codes ".") then walk at others
     else walk (percent_decode one ∷ at) others
 
--- these, behind those in the other order
+-- these, after those in the other order
 abbrev pub onto : List Segment → List Segment → List Segment
 onto [] others = others
 onto (one ∷ more) others = onto more (one ∷ others)
 
--- the name to which a reference leads that stands in the file of that name
+-- the name to which a reference in the file of that name leads
 unfoldable pub resolve : List ℕ → List ℕ → List ℕ
 resolve from text = join_with_byte 47 (onto (walk (directories (slice_split is_slash from)) (slice_split is_slash text)) [])
 
 -- ---- what is written
 
--- a byte that stands for itself in each language: a letter, a digit, `-`, `.`, `_` or `~` (RFC 3986, section 2.3)
+-- a byte that means itself in each language: a letter, a digit, `-`, `.`, `_` or `~` (RFC 3986, section 2.3)
 abbrev pub is_unreserved : ℕ → Bool
 is_unreserved b = is_ascii_alphanumeric b || b == 45 || b == 46 || b == 95 || b == 126
 
@@ -82,6 +82,6 @@ pub record LeadsDown (segment : Segment) : Type 0 where
 abbrev pub IsLocal : List ℕ → Type 0
 IsLocal name = All LeadsDown (slice_split is_slash name)
 
--- a byte that stands for itself in each language: an unreserved one, `%` or `/`
+-- a byte that means itself in each language: an unreserved one, `%` or `/`
 abbrev pub IsLinkByte : ℕ → Type 0
 IsLinkByte b = (is_unreserved b || b == 37 || b == 47) ≡ true

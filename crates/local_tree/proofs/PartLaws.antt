@@ -22,7 +22,7 @@ none_counted old n counted new so is = go (2 ^ 64 - 1) so is
     go : (most : ℕ) → counted ≡ min (n + 1) most → new ≡ max old (min (old + (n + 1)) most) → new ≡ max old (min (old + counted) most)
     go most so is = omega (arith, so, is)
 
--- where one is lost the count has risen
+-- if one is lost, the count has risen
 has_risen : (old n new : ℕ) → 0 < n → new ≡ more_refused old n → HasMoreRefused old new
 has_risen old n new some is = go (2 ^ 64 - 1) is
   where

@@ -16,7 +16,7 @@ abbrev pub HasText : Becomes → Bool → ℕ → BodyValue → List ℕ → Typ
 HasText becomes true place body text = becomes place body text
 HasText becomes false place body text = becomes place body text ⊎ (text ≡ body.bytes)
 
--- a file of that name has its bytes, and no other changed, where the folder tells its files
+-- a file of that name has its bytes, and no other changed, if the folder's files are known
 abbrev pub PutsChanged : Becomes → Bool → ℕ → BodyValue → List ℕ → Option Files → Option Files → Type 0
 PutsChanged becomes all place body name (Some old) (Some new) =
     (text : List ℕ) × HasText becomes all place body text × ((other : List ℕ) → new other ≡ with_file old name text other)

@@ -13,7 +13,7 @@ pub record Kept : Type 0 where
   pub failed : ℕ
   pub failing : Option ℕ
 
--- what stands under each name
+-- what is under each name
 abbrev pub file_in : List NamedFile → Files
 file_in [] name = None
 file_in (file ∷ files) name = if bytes_eq name file.0 then Some file.1 else file_in files name

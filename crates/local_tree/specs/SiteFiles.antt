@@ -5,12 +5,12 @@ use Rattle.local_tree.specs.Folders.{Files, Holding, HasMoreRefused}
 use Rattle.local_tree.specs.declared.site_files.WriteFault.{WriteFault}
 use Rattle.local_tree.specs.declared.site_files.WriteFault.TheVariants.{Device}
 
--- the first so many files are whole, and but for the first so many names all is as before
+-- the first so many files are whole, and except for the first so many names all is as before
 pub record AreWritten (whole touched : ℕ) (names bodies : List (List ℕ)) (old new : Files) : Type 0 where
   pub files : (i : ℕ) → i < whole → new (slice_index_or names i []) ≡ Some (slice_index_or bodies i [])
   pub others : (name : List ℕ) → ¬ Contains (take touched names) name → new name ≡ old name
 
--- P holds of the files before and after, where the folder tells them
+-- P holds of the files before and after, if the folder's files are known
 abbrev pub OfFiles : Option Files → Option Files → (Files → Files → Type 0) → Type 0
 OfFiles (Some old) (Some new) P = P old new
 OfFiles None None P = ⊤

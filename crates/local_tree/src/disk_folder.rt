@@ -37,7 +37,7 @@ const FEW: usize = 16;
 struct Known {
     // Below the folder; empty at first, and after a put that failed.
     dirs: String,
-    // Whether it was made here, so that nothing stands in it but what was put there since.
+    // Whether it was made here, so that nothing is in it except what was put there since.
     is_new: bool,
 }
 
@@ -63,9 +63,9 @@ impl Known {
 }
 
 /// Files below a folder of the system. A file is written under another name and gets its own when it
-/// is whole and closed without an error, so nobody sees half of it, and what stood there stays until then.
+/// is whole and closed without an error, so nobody sees half of it, and what was there stays until then.
 ///
-/// A symbolic link that stands below the folder where a directory or a file is to stand is refused,
+/// A symbolic link that is below the folder where a directory or a file is to be is refused,
 /// and so is anything else that is neither. Links that others make while a file is put, or in a
 /// directory that was made here, aren't seen: the system's calls by which one would see them aren't
 /// offered. One in a file's place is replaced, and never followed.
@@ -121,7 +121,7 @@ fn look_for_dir<R: Files>(rt: &R, path: &str) -> io::Result<()> {
     }
 }
 
-// Makes a directory, unless it is there. Where another run makes it meanwhile, it is looked at again. Whether it was made here.
+// Makes a directory, unless it is there. If another run makes it meanwhile, it is looked at again. Returns whether this call made it.
 fn make_dir<R: Files>(rt: &R, path: &str) -> io::Result<bool> {
     match look_for_dir(rt, path) {
         Err(e) if e.kind() == ErrorKind::NotFound => match rt.create_dir(path) {
@@ -172,7 +172,7 @@ fn make_dirs<R: Files>(
     Ok(is_new)
 }
 
-// Refuses what stands where a file is to stand, unless it is a file or nothing.
+// Refuses what is where a file is to be, unless it is a file or nothing.
 fn look_for_file<R: Files>(rt: &R, path: &str) -> io::Result<()> {
     match rt.symlink_metadata(path) {
         Ok(found) if found.is_file() => Ok(()),
@@ -197,8 +197,8 @@ where
     rt.rename(part, path)
 }
 
-// Makes the directories of a file below a folder, and refuses what stands in its place, which can be nothing in a directory that
-// was made here. Gives its path.
+// Makes the directories of a file below a folder, and refuses what is in its place, which can be nothing in a directory that was
+// made here. Returns its path.
 fn find_place<R: Files>(
     rt: &R,
     alloc: Global,
@@ -235,7 +235,7 @@ struct InOrder<'s, 'h, R> {
 }
 
 impl<'s, 'h, R: Files> InOrder<'s, 'h, R> {
-    // Gives the next part its name, where it is ready for that. Whether that ended well.
+    // Gives the next part its name, if it is ready for that. Returns whether that ended well.
     fn give_name(&mut self, part: &Part<'_>, place: usize) -> bool {
         if !part.is_ready_for(place) {
             return false;
@@ -371,8 +371,8 @@ where
     }
 
     /// Why the last put that failed did: the system's error, or, with none of its numbers, one of the folder's own (`NotADirectory`
-    /// and `AlreadyExists` where a link or something else stands in the place of a directory or a file, `InvalidInput` where the
-    /// name isn't local, `Other` where closing failed or a part was lost). None where no put failed.
+    /// and `AlreadyExists` if a link or something else is in the place of a directory or a file, `InvalidInput` if the name isn't
+    /// local, `Other` if closing failed or a part was lost). None if no put failed.
     pub fn error(&self) -> Option<&Error> {
         self.error.as_ref()
     }
@@ -489,9 +489,9 @@ where
         named
     }
 
-    // Gives the files of a batch, which begins at this place, their names, those that are ready first made so where none is, and
-    // has those of the next batch made ready meanwhile. Where one doesn't get its name all parts are taken away, so that its file
-    // has the room that it would have without them. Gives the place behind the last that got its name.
+    // Gives the files of a batch, which begins at this place, their names; if none is ready, they are made ready first. Those of
+    // the next batch are made ready meanwhile. If one doesn't get its name all parts are taken away, so that its file has the
+    // room that it would have without them. Returns the place after the last that got its name.
     fn name_batch<'h, C: PartCrew>(
         &mut self,
         crew: &C,
@@ -590,7 +590,7 @@ where
     ghost failed = { λ f. f.failed };
 
     /// Puts the file. A name that isn't local is refused, and so are a path that is too long for the
-    /// disk, a directory where the file is to stand, and a file or a link where a directory is.
+    /// disk, a directory where the file is to be, and a file or a link where a directory is.
     fn put(&mut self, name: &str, bytes: &[u8]) -> Result<(), FolderFault> {
         let put = self.put_by_part(name, bytes);
         self.remove_own();

@@ -1,4 +1,4 @@
-//! What a folder is asked for.
+//! What a folder is to do.
 ghost use Rattle.std.specs.Prelude.{◌≡◌, ℕ, Option, OnOk, OnErr, IfErr, length, map, string_bytes};
 ghost use Rattle.local_tree.specs.Folders.{Files, Puts, KeepsOthers, CountsRefusedPut, holding};
 ghost use Rattle.local_names.specs.Names.{AreDistinct};
@@ -19,9 +19,9 @@ pub enum FolderFault {
 
 /// A folder into which files are put, each whole.
 ///
-/// A folder may tell the files that it holds. One whose files others can change tells nothing.
+/// The model may know a folder's files. Of one whose files others can change it knows nothing.
 pub trait Folder {
-    // What stands under each name, where the folder tells it.
+    // What is under each name, if that is known.
     ghost files: { Self → Option Files };
 
     // How many puts answered an error.
@@ -34,7 +34,7 @@ pub trait Folder {
         ensures torn { OnErr result (KeepsOthers (files self.old) (files self.new) name.now) }
         ensures counted { CountsRefusedPut (failed self.old) (failed self.new) result };
 
-    /// Puts the kept pages of a harvest, in their order, each under its name. Where a put fails no other is made. A folder may make
+    /// Puts the kept pages of a harvest, in their order, each under its name. If a put fails, no other is made. A folder may make
     /// the files ready in another order, as long as nobody finds one under its name before its turn.
     fn put_site(&mut self, names: &[String], harvest: &Harvest<Body>) -> Result<(), WriteFault>
         requires count { length names.now ≡ length harvest.now.kept }

@@ -75,7 +75,7 @@ impl MemoryFolder {
         }
     }
 
-    // Keeps a file. The error is that memory is wanting.
+    // Keeps a file. Fails only if memory runs out.
     fn keep(&mut self, name: &str, bytes: &[u8]) -> Result<(), AllocError>
         ensures kept { OnOk result ((other : List ℕ) → file_in self.new.files other ≡ with_file (file_in self.old.files) name.now bytes.now other) }
         ensures same { OnErr result (self.new.files ≡ self.old.files) }
@@ -98,13 +98,13 @@ impl Folder for MemoryFolder {
 
     ghost failed = { λ f. f.failed };
 
-    /// Keeps the file. It fails where this put was to fail, or memory is wanting.
+    /// Keeps the file. It fails if this put was to fail, or memory runs out.
     fn put(&mut self, name: &str, bytes: &[u8]) -> Result<(), FolderFault>
         ensures put { OnOk result (Puts (Some (file_in self.old.files)) (Some (file_in self.new.files)) name.now bytes.now) }
         ensures torn { OnErr result (KeepsOthers (Some (file_in self.old.files)) (Some (file_in self.new.files)) name.now) }
         ensures counted { CountsRefusedPut self.old.failed self.new.failed result }
 
-        // It fails where it was to, and then, as where memory is wanting, changes nothing.
+        // If it was to fail, it fails and then, as when memory runs out, changes nothing.
         ensures same { OnErr result (self.new.files ≡ self.old.files) }
         ensures planned { self.old.failing ≡ Some self.old.puts → IsErr result }
         ensures puts { self.new.puts ≡ min (self.old.puts + 1) (2 ^ 64 - 1) }

@@ -13,12 +13,12 @@ pub struct Part<'a> {
     place: usize,
     path: String,
     bytes: &'a [u8],
-    // Whether it stands at its path, whole and closed without an error.
+    // Whether it is at its path, whole and closed without an error.
     is_ready: bool,
 }
 
 impl<'a> Part<'a> {
-    // The part of the file at this place, which is to stand at this path with these bytes. Nothing stands there yet.
+    // The part of the file at this place, which is to be at this path with these bytes. Nothing is there yet.
     pub(crate) fn new(place: usize, path: String, bytes: &'a [u8]) -> Part<'a> {
         Part {
             place,
@@ -46,7 +46,7 @@ impl<'a> Part<'a> {
         rt.rename(self.path.as_str(), path)
     }
 
-    // Takes away what stands at its path.
+    // Takes away what is at its path.
     pub(crate) fn remove<R: Files>(&self, rt: &R) {
         let _ = rt.remove_file(self.path.as_str());
     }
@@ -93,9 +93,8 @@ pub trait Naming {
 
 /// Who writes parts, perhaps several side by side.
 pub trait PartCrew {
-    /// Has [`Part::write`] called at each part, in any order, and meanwhile names given to the parts before them, once. Where the
-    /// first isn't called, or fails, where a part is moved, and where no names are given, files are put as they would be without a
-    /// crew.
+    /// Has [`Part::write`] called at each part, in any order, and meanwhile names given to the parts before them, once. If the
+    /// first isn't called, or fails, if a part is moved, and if no names are given, files are put as they would be without a crew.
     fn write_parts<N: Naming>(&self, parts: &mut [Part<'_>], naming: &mut N);
 }
 

@@ -1,4 +1,4 @@
-//! What a folder is asked for that takes bodies as those hand them out who keep them.
+//! What a folder is to do that takes bodies as those hand them out who keep them.
 ghost use Rattle.std.specs.Prelude.{◌≡◌, ◌&&◌, ℕ, OnOk, OnErr, IfOk, IfErr, length, map, string_bytes};
 ghost use Rattle.kept_bodies.specs.Bodies.{BodyValue};
 ghost use Rattle.kept_bodies.specs.declared.body_kind.BodyKind.{BodyKind};
@@ -14,19 +14,19 @@ use harvest::Harvest;
 use kept_bodies::{Body, BodyKind};
 use std::alloc::Global;
 
-/// A kept body of which it is known what it is, and how long.
+/// A kept body of which it is known what it is, and how much of it this run received.
 pub trait HasKind {
     // What it is.
     ghost kind_of: { Self → BodyKind };
 
-    // How many bytes it has.
+    // How many bytes of it this run received.
     ghost len_of: { Self → ℕ };
 
     /// What it is. Takes no memory.
     fn kind_of(&self) -> BodyKind
         ensures { result ≡ kind_of self.now };
 
-    /// How many bytes it has. Takes no memory.
+    /// How many bytes of it this run received: those that count for a quota. Takes no memory.
     fn len_of(&self) -> u64
         ensures { result ≡ len_of self.now };
 }
@@ -73,7 +73,7 @@ fn put_as<D: Folder>(
 
 /// A folder that takes kept bodies of this type. Each folder takes those in memory.
 pub trait Shelf<B: Drop>: Folder {
-    // Which body a kept one may be. Of one that may be any, a folder that tells its files says nothing.
+    // Which body a kept one may be. Of one that may be any, nothing is known even if the folder's files are.
     ghost holds: { B → BodyValue → Type 0 };
 
     /// Puts a file of this name below the folder, with the bytes of this body. All else is as of [`Folder::put`].
@@ -82,7 +82,7 @@ pub trait Shelf<B: Drop>: Folder {
         ensures torn { OnErr result (KeepsOthers (Self.files self.old) (Self.files self.new) name.now) }
         ensures counted { CountsRefusedPut (Self.failed self.old) (Self.failed self.new) result };
 
-    /// Puts the kept pages of a harvest, in their order, each under its name. Where a put fails no other is made. A folder may make
+    /// Puts the kept pages of a harvest, in their order, each under its name. If a put fails, no other is made. A folder may make
     /// the files ready in another order, as long as nobody finds one under its name before its turn.
     fn put_harvest(&mut self, names: &[String], harvest: &Harvest<B>) -> Result<(), WriteFault>
         requires count { length names.now ≡ length harvest.now.kept }

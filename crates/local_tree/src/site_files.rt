@@ -19,8 +19,8 @@ pub enum WriteFault {
     Device(usize),
 }
 
-/// Puts the kept pages of a harvest into a folder, in their order, each under its name. Where a put
-/// fails no other is made.
+/// Puts the kept pages of a harvest into a folder, in their order, each under its name. If a put fails, no other is
+/// made.
 pub fn write_site<B: Drop, D: Shelf<B>>(
     folder: &mut D,
     names: &[String],

@@ -23,7 +23,7 @@ not_found_bytes = codes "HTTP/1.1 404 \r\nContent-Length: 0\r\n\r\n"
 abbrev pub asks_for : List ℕ → List ℕ → Bool
 asks_for at request = bytes_eq (request_text at) request || bytes_eq (kept_request_text at) request
 
--- the bytes that are stored for the first address that the request asks for, or the answer that nothing is
+-- the bytes that are stored for the first address that the request is for, or the answer that nothing is
 unfoldable pub answer_to : List StoredAnswer → List ℕ → List ℕ
 answer_to [] request = not_found_bytes
 answer_to (stored ∷ more) request = if asks_for stored.at request then stored.bytes.items else answer_to more request
@@ -75,7 +75,7 @@ planned_for failures connection call = planned_fault_of (planned_place failures 
 
 -- ---- what contracts see
 
--- the answers, the failures that are planned, the connection's number, what was written, what is still to be told once this is a
+-- the answers, the failures that are planned, the connection's number, what was written, what is still to be given once this is a
 -- whole request, how many calls were made and how many failed, and whether one answered `Failed`
 pub record Talk : Type 0 where
   pub answers : List StoredAnswer
@@ -87,7 +87,7 @@ pub record Talk : Type 0 where
   pub failed : ℕ
   pub lost : Bool
 
--- the answers, the failures that are planned, how many connections were asked for, how many of them were refused, how often one
+-- the answers, the failures that are planned, how many connections were requested, how many of them were refused, how often one
 -- that was kept was taken, and the one that is kept, with its origin
 pub record Site : Type 0 where
   pub answers : List StoredAnswer
@@ -97,7 +97,7 @@ pub record Site : Type 0 where
   pub taken : ℕ
   pub kept : Option (List ℕ × Talk)
 
--- a connection that is kept: nothing of the next request was written, and nothing is known of its answer; one that dies tells its end
+-- a connection that is kept: nothing of the next request was written, and nothing is known of its answer; one that dies gives its end
 abbrev pub rested : Talk → Talk
 rested t = record t { request = []; rest = if dies t.failures t.connection then Some [] else None }
 
@@ -122,12 +122,12 @@ talk_called t = record t { calls = min (t.calls + 1) (2 ^ 64 - 1) }
 abbrev pub talk_erred : Talk → WireFault → Talk
 talk_erred t f = record t { failed = counted t.failed 1; lost = lost_by t.lost f }
 
--- what is still to be told after a request: an answer that is fixed stays, and one is fixed where the request became whole
+-- what is still to be given after a request: an answer that is fixed stays, and one is fixed if the request became whole
 abbrev pub rest_after : Option (List ℕ) → List StoredAnswer → List ℕ → Option (List ℕ)
 rest_after (Some rest) answers request = Some rest
 rest_after None answers request = if is_whole request then Some (answer_to answers request) else None
 
--- the answer is fixed where what was written is a whole request
+-- the answer is fixed if what was written is a whole request
 abbrev pub talk_settled : Talk → Talk
 talk_settled t = record t { rest = rest_after t.rest t.answers t.request }
 
@@ -145,7 +145,7 @@ abbrev pub given_of : Option (List ℕ) → ℕ → ℕ
 given_of None room = 0
 given_of (Some rest) room = min room (length rest)
 
--- so much was told
+-- so much was given
 abbrev pub told : Option (List ℕ) → ℕ → Option (List ℕ)
 told None n = None
 told (Some rest) n = Some (drop n rest)

@@ -1,4 +1,4 @@
-//! Connections in memory, whose peer answers what is stored for the address that is asked for.
+//! Connections in memory, whose peer answers what is stored for the address that is requested.
 ghost use Rattle.std.specs.Prelude.{◌≡◌, ◌≢◌, ◌<◌, ◌⊎◌, length, IsTrue, false, Some, None, IfOk, IfSome, IsOk, OnOk, OnErr, Ok, Err, MatchBool, MatchOption, MatchResult, bytes_eq};
 ghost use Rattle.std.specs.Io.{ReadsAtMost, WritesAtMost};
 ghost use Rattle.std.specs.Io.KnownBytes.{IsAtEnd, ReadConsumes, WriteAppends, Keeps};
@@ -50,7 +50,7 @@ pub struct PlannedFailure {
     pub place: FailingPlace,
 }
 
-/// Makes connections to a site in memory, whatever the origin, and lets them fail where it is told to.
+/// Makes connections to a site in memory, whatever the origin, and lets them fail at the planned places.
 #[derive(Drop)]
 pub struct MemoryConnect<'a> {
     alloc: Global,
@@ -79,7 +79,7 @@ impl<'a> Model for MemoryConnect<'a> {
 }
 
 impl<'a> MemoryConnect<'a> {
-    /// Connections that answer the request for a stored address, the first where it is stored twice,
+    /// Connections that answer the request for a stored address, the first if it is stored twice,
     /// by its bytes, and any other request by a status 404, and that fail at these places. They
     /// borrow both, so that many can share one site.
     pub fn new(
@@ -151,7 +151,7 @@ impl<'a> Connect for MemoryConnect<'a> {
         ensures refused { CountsRefusal self.old.refused self.new.refused result }
         ensures taken { self.new.taken ≡ self.old.taken }
         ensures stands { Stays (λ of wire. self.old.kept ≡ Some (of, wire)) (λ of wire. self.new.kept ≡ Some (of, wire)) }
-        // A connection fails just where that is planned.
+        // A connection fails exactly if that is planned.
         ensures planned { MatchBool (is_connection_refused self.old.failures self.old.made) (result ≡ Err connect_fault.Failed) (IsOk result) }
         ensures after { self.new ≡ record self.old { made = counted self.old.made 1; refused = self.new.refused } }
     {
@@ -198,7 +198,7 @@ impl<'a> Connect for MemoryConnect<'a> {
         }
     }
 
-    // A connection that has still bytes to tell is ended, and so is one whose origin finds no memory.
+    // A connection that has still bytes to give is ended, and so is one whose origin finds no memory.
     fn give_back(&mut self, of: &Origin, wire: StoredWire<'a>)
         ensures made { self.new.made ≡ self.old.made }
         ensures refused { self.new.refused ≡ self.old.refused }
@@ -263,7 +263,7 @@ impl<'a> StoredWire<'a> {
         &self.request
     }
 
-    // Whether nothing that is known is to be told.
+    // Whether nothing that is known is to be given.
     fn is_at_end(&self) -> bool
         ensures { IsTrue result → IsAtEnd self.now.rest }
     {
@@ -312,7 +312,7 @@ impl<'a> StoredWire<'a> {
         }
     }
 
-    // Fixes the answer to what was written, where this is a whole request and has none yet.
+    // Fixes the answer to what was written, if this is a whole request and has none yet.
     fn settle(&mut self) -> Result<(), AllocError>
         ensures settled { OnOk result (self.new ≡ talk_settled self.old) }
         ensures kept { OnErr result (self.new ≡ self.old) }
@@ -413,7 +413,7 @@ fn is_closing(alloc: Global, at: &Address, request: &[u8]) -> Result<bool, Alloc
     let mut text = MemoryWire::new(alloc, Vec::new(alloc), Vec::new(alloc), Vec::new(alloc));
     let written = write_request(&mut text, at);
     let is_same = text.written() == request;
-    // By a call, as the proof of letting go in place is long.
+    // By a call, as the proof of a drop in place is long.
     drop(text);
     match written {
         Ok(()) => Ok(is_same),
@@ -428,7 +428,7 @@ fn is_keeping(alloc: Global, at: &Address, request: &[u8]) -> Result<bool, Alloc
     let mut text = MemoryWire::new(alloc, Vec::new(alloc), Vec::new(alloc), Vec::new(alloc));
     let written = write_kept_request(&mut text, at);
     let is_same = text.written() == request;
-    // By a call, as the proof of letting go in place is long.
+    // By a call, as the proof of a drop in place is long.
     drop(text);
     match written {
         Ok(()) => Ok(is_same),

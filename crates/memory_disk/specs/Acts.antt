@@ -1,4 +1,4 @@
--- What stands under names behind acts, the last of which comes first.
+-- What is under names after acts, the last of which comes first.
 use Rattle.std.specs.Prelude.{◌≡◌, ◌≤◌, ◌+◌, ℕ, List, [], ◌∷◌, Option, Some, None, length, drop, bytes_eq, if◌then◌else◌, string_bytes}
 use Rattle.std.specs.declared.string.String.{String}
 use Rattle.std.specs.declared.alloc.Global.{Global}
@@ -15,6 +15,6 @@ abbrev pub IsOpen : Option (String Global) → List ℕ → Type 0
 IsOpen None n = ⊥
 IsOpen (Some open_) n = string_bytes open_ ≡ n
 
--- this stood there at that moment or a later one
+-- this was there at that moment or a later one
 abbrev pub Stood : List Act → ℕ → List ℕ → Option (List ℕ) → Type 0
 Stood acts t n c = (ago : ℕ) × (ago + t ≤ length acts) × (c ≡ file_at (drop ago acts) n)

@@ -7,11 +7,11 @@ use std::alloc::{AllocError, Global};
 /// What was done to a name.
 #[derive(Drop)]
 pub enum Act {
-    /// A file of these bytes stands there.
+    /// A file of these bytes is there.
     Put(String, Vec<u8>),
     /// Nothing does.
     Gone(String),
-    /// It stands under the second, and no more under the first.
+    /// It is under the second, and no more under the first.
     Moved(String, String, Vec<u8>),
 }
 
@@ -23,7 +23,7 @@ pub struct MemoryDisk {
     open: Option<String>,
 }
 
-// What stands under a name.
+// What is under a name.
 fn stands<'a>(acts: &'a [Act], name: &str) -> Option<&'a [u8]>
     ensures { option_map (λ bytes. bytes.now) result ≡ file_at acts.now name.now }
 {
@@ -86,7 +86,7 @@ impl MemoryDisk {
         self.open = None;
     }
 
-    /// What stood under a name so many moments ago.
+    /// What was under a name so many moments ago.
     pub fn stood(&self, ago: usize, name: &str) -> Option<&[u8]>
         requires { ago ≤ length self.now.acts.items }
         ensures { option_map (λ bytes. bytes.now) result ≡ file_at (drop ago self.now.acts.items) name.now }

@@ -4,7 +4,7 @@ use Rattle.std.specs.Duration.{as_nanos}
 use Rattle.pacing.specs.declared.retries.Retries.{Retries as Settings}
 
 -- how often a request is made again at most, the longest pause before it in nanoseconds, whether after a refused connection and after a
--- host without an address, and the statuses after which it is, besides those that ask for it
+-- host without an address, and the statuses after which it is, besides those that demand it
 pub record Retried : Type 0 where
   pub most : ℕ
   pub wait : ℕ

@@ -16,7 +16,7 @@ pub struct Retries {
     pub refused: bool,
     /// Whether it is made again after the host had no address.
     pub unknown: bool,
-    /// The statuses after which it is made again, besides those that ask for it.
+    /// The statuses after which it is made again, besides those that demand it.
     pub statuses: Vec<u16>,
 }
 

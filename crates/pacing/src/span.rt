@@ -64,7 +64,7 @@ fn within(seconds: u64, parts: u64, place: u64, unit: u64) -> Option<u64>
     if span <= MAX_SPAN { Some(span) } else { None }
 }
 
-// What stands before a unit, if the text ends with it.
+// What is before a unit, if the text ends with it.
 pub(crate) fn cut(text: &str, unit: char) -> Option<&str>
     requires ascii { unit < 128 }
     requires some { 0 < unit }
@@ -93,7 +93,7 @@ fn split_unit(text: &str) -> (&str, u64)
     }
 }
 
-// What stands before the point, and after it.
+// What is before the point, and after it.
 pub(crate) fn split_point(number: &str) -> (&str, &str)
     ensures whole { result.0.now ≡ before_first (λ byte. byte == 46) number.entry.now }
     ensures fraction { result.1.now ≡ after_first (λ byte. byte == 46) number.entry.now }

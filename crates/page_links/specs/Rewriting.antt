@@ -145,7 +145,7 @@ pub record IsAnew (changes : Changes) (syntax : Syntax) (page other : List ℕ) 
   pub between : List (List ℕ)
   pub one_by_one : AreAnew changes syntax page between other
 
--- A page that is this one but for values and style sheets, of which the links aren't this one's, each changed.
+-- A page that is this one except for values and style sheets, of which the links aren't this one's, each changed.
 pub record ReadsOtherwise (changes : Changes) (known : ValueForm → List ℕ → List ℕ → Type 0) (syntax : Syntax) (page : List ℕ) : Type 0 where
   pub written : List ℕ
   pub anew : IsAnew changes syntax page written

@@ -112,7 +112,7 @@ cut_from_is_match r t (p ∷ ps) text h =
         let rest = cut xs both.1 in
         ((x ∷ []) ∷ rest.0, ap (λ back. x ∷ back) rest.1, (inr (x, refl, both.0), rest.2))
 
--- the value is true of just the texts that can be cut so
+-- the value is true exactly of the texts that can be cut so
 pub is_match-cuts : {P : Type 0} (r : P → Bool) (t : P → ℕ → Bool) (ps : List P) (text : List ℕ) → IsTrue (is_match r t ps text) ↔ Matches r t ps text
 is_match-cuts r t ps text =
     (cut_from_is_match r t ps text, λ (pieces, joined, each). subst (λ xs. is_match r t ps xs ≡ true) joined (is_match_from_cut r t ps pieces each))
@@ -141,7 +141,7 @@ is_match_singles r t (q ∷ seg) ps (x ∷ text) s h =
 drop_behind : {A : Type 0} (n : ℕ) (x : A) (xs : List A) → drop 1 (drop n (x ∷ xs)) ≡ drop n xs
 drop_behind n x xs = drop-drop 1 n (x ∷ xs) ∙ ap (λ k. drop k (x ∷ xs)) (let e : n + 1 ≡ suc n = omega arith in e)
 
--- where the parts up to the next run match later, what follows them matches later still
+-- if the parts up to the next run match later, what follows them matches later still
 absorb : {P : Type 0} (r : P → Bool) (t : P → ℕ → Bool) (seg ps : List P) (text : List ℕ) → Singles r seg → some_end (is_match r t (seg ++ ps)) text ≡ true → some_end (is_match r t ps) (drop (length seg) text) ≡ true
 unfolding some_end
 absorb r t seg ps [] s h = some_end-here (is_match r t ps) (drop (length seg) []) (is_match_singles r t seg ps [] s h)
@@ -155,7 +155,7 @@ absorb r t seg ps (x ∷ text) s h =
 
 -- ---- the state of the walk
 
--- whether the rest can match from a later place behind the last run; `octets` says what is left there
+-- whether the rest can match from a later place after the last run; `octets` says what is left there
 abbrev pub retry : {P T : Type 0} → (P → Bool) → (P → ℕ → Bool) → List P → (T → List ℕ) → Option (ℕ × T) → Bool
 retry r t parts octets None = false
 retry r t parts octets (Some back) = some_end (is_match r t (drop back.0 parts)) (drop 1 (octets back.1))
@@ -166,7 +166,7 @@ Since r parts octets at rest None = Unit {0}
 Since r parts octets at rest (Some back) =
     (n : ℕ) × (at ≡ back.0 + n) × Singles r (take n (drop back.0 parts)) × (rest ≡ drop n (octets back.1))
 
--- a later place behind the last run is one behind the parts reached
+-- a later place after the last run is one after the parts reached
 later : {P T : Type 0} (r : P → Bool) (t : P → ℕ → Bool) (parts : List P) (octets : T → List ℕ) (at : ℕ) (rest : List ℕ) (back : Option (ℕ × T)) → at ≤ length parts → Since r parts octets at rest back → retry r t parts octets back ≡ true → some_end (is_match r t (drop at parts)) (drop 1 rest) ≡ true
 later r t parts octets at rest None within since h = cc
 later {P} r t parts octets at rest (Some back) within (n, reached, singles, left) h =
@@ -188,7 +188,7 @@ unfolding some_end
 some_end-same f g same [] = same []
 some_end-same f g same (x ∷ xs) = rw (same (x ∷ xs), some_end-same f g same xs) refl
 
--- at a run, the older places behind a run are given up
+-- at a run, the older places after a run are given up
 pub at_run : {P T : Type 0} (r : P → Bool) (t : P → ℕ → Bool) (parts : List P) (octets : T → List ℕ) (at : ℕ) (p : P) (rest : List ℕ) (back : Option (ℕ × T)) → at < length parts → p ≡ get_or parts at p → r p ≡ true → Since r parts octets at rest back → (is_match r t (drop at parts) rest || retry r t parts octets back) ≡ (is_match r t (drop (at + 1) parts) rest || some_end (is_match r t (drop (at + 1) parts)) (drop 1 rest))
 at_run r t parts octets at p rest back inside here run since =
     let f = is_match r t (drop (at + 1) parts) in
@@ -227,7 +227,7 @@ pub at_no_part : {P : Type 0} (r : P → Bool) (t : P → ℕ → Bool) (parts :
 unfolding is_match
 at_no_part r t parts at x behind past = ap (λ ps. is_match r t ps (x ∷ behind)) (drop_all at parts past)
 
--- the next place behind the last run
+-- the next place after the last run
 pub back_once : {P T : Type 0} (r : P → Bool) (t : P → ℕ → Bool) (parts : List P) (octets : T → List ℕ) (start : ℕ) (tried : T) (y : ℕ) (next : List ℕ) → octets tried ≡ y ∷ next → retry r t parts octets (Some (start, tried)) ≡ (is_match r t (drop start parts) next || some_end (is_match r t (drop start parts)) (drop 1 next))
 back_once r t parts octets start tried y next e =
     ap (λ xs. some_end (is_match r t (drop start parts)) (drop 1 xs)) e ∙ some_end-next (is_match r t (drop start parts)) next
@@ -238,12 +238,12 @@ unfolding some_end
 at_end r t parts octets at back within since =
     or_absorbs (is_match r t (drop at parts) []) (retry r t parts octets back) (λ h. later r t parts octets at [] back within since h) ∙ is_match-end r t (drop at parts)
 
--- how many octets stand behind the last run, or this number where no run was met
+-- how many octets follow the last run, or this number if no run was met
 abbrev pub tries : {T : Type 0} → (T → List ℕ) → Option (ℕ × T) → ℕ → ℕ
 tries octets None n = n
 tries octets (Some back) n = length (octets back.1)
 
--- what is left is no longer than what stands behind the last run
+-- what is left is no longer than what follows the last run
 pub rest_shorter : {P T : Type 0} (r : P → Bool) (parts : List P) (octets : T → List ℕ) (at : ℕ) (rest : List ℕ) (back : Option (ℕ × T)) (m : ℕ) → Since r parts octets at rest back → tries octets back (length rest) ≤ m → length rest ≤ m
 rest_shorter r parts octets at rest None m since h = h
 rest_shorter r parts octets at rest (Some back) m (n, reached, singles, left) h = omega (arith, ap length left, length-drop n (octets back.1))
@@ -252,7 +252,7 @@ pub tries_less : {T : Type 0} (octets : T → List ℕ) (x : ℕ) (behind : List
 tries_less octets x behind None m h = omega arith
 tries_less octets x behind (Some back) m h = h
 
--- going back by one octet, where no part takes the next one
+-- going back by one octet, if no part takes the next one
 pub at_back : {P T : Type 0} (r : P → Bool) (t : P → ℕ → Bool) (parts : List P) (octets : T → List ℕ) (this : Bool) (back : Option (ℕ × T)) (start : ℕ) (tried : T) (y : ℕ) (next : List ℕ) → this ≡ false → back ≡ Some (start, tried) → octets tried ≡ y ∷ next → (this || retry r t parts octets back) ≡ (is_match r t (drop start parts) next || some_end (is_match r t (drop start parts)) (drop 1 next))
 at_back r t parts octets this back start tried y next missed is e =
     ap (λ b. b || retry r t parts octets back) missed ∙ ap (retry r t parts octets) is ∙ back_once r t parts octets start tried y next e
@@ -318,7 +318,7 @@ State_back r t octets parts whole at rest back x behind start tried again y next
           ∙ at_back r t parts octets (is_match r t (drop at parts) (x ∷ octets behind)) back start tried y (octets next) (missed (octets behind)) is new;
     }
 
--- where octets are left, some stand behind the last run
+-- if octets are left, some follow the last run
 pub State_nothing_behind : {P T : Type 0} (r : P → Bool) (t : P → ℕ → Bool) (octets : T → List ℕ) (parts : List P) (whole : T) (at : ℕ) (rest : T) (back : Option (ℕ × T)) (x : ℕ) (behind : T) (start : ℕ) (tried again : T) → State r t octets parts whole at rest back → octets rest ≡ x ∷ octets behind → back ≡ Some (start, tried) → tried ≡ again → octets again ≡ [] → ⊥
 State_nothing_behind r t octets parts whole at rest back x behind start tried again inv read is same none =
     let empty : length (octets tried) ≤ 0 = omega (arith, ap length (ap octets same ∙ none)) in

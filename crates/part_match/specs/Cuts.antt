@@ -24,7 +24,7 @@ unfoldable pub first_and : (ℕ → Bool) → (List ℕ → Bool) → List ℕ �
 first_and takes test [] = false
 first_and takes test (octet ∷ rest) = takes octet && test rest
 
--- whether the parts match the text: no parts the empty text, and a first part a front of it where the others match the rest
+-- whether the parts match the text: no parts the empty text, and a first part a front of it if the others match the rest
 unfoldable pub is_match : {P : Type 0} → (P → Bool) → (P → ℕ → Bool) → List P → List ℕ → Bool
 is_match is_run takes [] text = list_all (λ _. false) text
 is_match is_run takes (part ∷ parts) text =

@@ -20,7 +20,7 @@ pub fn matches<P: Part, T: Text>(parts: &[P], text: T) -> bool
     }
     let mut at = 0;
     let mut rest = text;
-    // The place behind the last run, and the text that was tried there last.
+    // The place after the last run, and the text that was tried there last.
     let mut last_run: Option<(usize, T)> = None;
     while let Some((octet, behind)) = rest.split_first() {
         if at < parts.len() {

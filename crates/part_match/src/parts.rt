@@ -35,7 +35,7 @@ impl Part for u8 {
 pub trait Text: Copy {
     ghost octets: { Self → List ℕ };
 
-    /// The first octet and the text behind it, or `None` at the end.
+    /// The first octet and the text after it, or `None` at the end.
     fn split_first(self) -> Option<(u8, Self)>
         ensures { MatchOption result (octets self ≡ []) (λ x. octets self ≡ x.0 ∷ octets x.1) };
 }

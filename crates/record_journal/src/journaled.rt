@@ -159,7 +159,7 @@ impl<F: Telling, J: Journal> Fetcher for Journaled<F, J> {
         ensures told { IfOk result (λ a. F.says (F.site self.old.inner) at.now a.outcome a.body) }
         ensures asked { OnOk result (F.log self.new.inner ≡ F.log self.old.inner ++ ask.Page at.now ∷ []) }
         ensures refused { OnErr result (GainedAtMost (F.log self.old.inner) (F.log self.new.inner) (ask.Page at.now)) }
-        // Where answers are saved, what was told is handed over before it is answered.
+        // If answers are saved, what was received is handed over before it is answered.
         ensures is_recording { self.new.is_recording ≡ self.old.is_recording }
         ensures handed { IfOk result (λ a. MatchBool self.old.is_recording (HandsPage J.contents (F.links self.old.inner) at.now a self.old self.new) (IsStill self.old self.new)) }
         ensures unkept { OnErr result (self.new.kept ≡ self.old.kept) }
@@ -176,7 +176,7 @@ impl<F: Telling, J: Journal> Fetcher for Journaled<F, J> {
         ensures told { IfOk result (λ r. F.rules (F.site self.old.inner) of.now r) }
         ensures asked { OnOk result (F.log self.new.inner ≡ F.log self.old.inner ++ ask.Rules of.now ∷ []) }
         ensures refused { OnErr result (GainedAtMost (F.log self.old.inner) (F.log self.new.inner) (ask.Rules of.now)) }
-        // Where answers are saved, what was told is handed over before it is answered.
+        // If answers are saved, what was received is handed over before it is answered.
         ensures is_recording { self.new.is_recording ≡ self.old.is_recording }
         ensures handed { IfOk result (λ r. MatchBool self.old.is_recording (HandsChain J.contents of.now r self.old self.new) (IsStill self.old self.new)) }
         ensures unkept { OnErr result (self.new.kept ≡ self.old.kept) }

@@ -206,7 +206,7 @@ Good change Out f out = f.raw ≡ []
 Good change Open f out = Opened change f out
 Good change (In quote) f out = (is_quote quote ≡ true) × (fed nothing_read out ≡ front (Quoted quote) [] (option_map (changed change) f.found))
 
--- what was written is read as the front, with its URL changed, but for what is held back
+-- what was written is read as the front, with its URL changed, except what is held back
 pub record Keeps (change : Change) (f : Front) (out : List ℕ) : Type 0 where
   pub behind : fed nothing_read (out ++ f.raw) ≡ mapped change f
   pub good : Good change (zone f.place) f out

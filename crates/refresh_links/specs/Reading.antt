@@ -1,4 +1,4 @@
--- What the code's parts stand for.
+-- What the code's parts represent.
 use Rattle.std.specs.Prelude.{option_map, string_bytes}
 use Rattle.refresh_links.specs.Refresh.{Front}
 use Rattle.refresh_links.specs.Rewriting.{Rewrite}

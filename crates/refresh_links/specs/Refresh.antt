@@ -33,7 +33,7 @@ start b = if is_white b then At Start else if is_time b then At Time else At Bad
 abbrev pub time : ℕ → Turn
 time b = if is_time b then At Time else if is_white b then At Behind else if separates b then At Before else At Bad
 
--- a quote begins a URL behind it, any other byte one with it
+-- a quote begins a URL after it, any other byte one with it
 abbrev pub quote_or_url : ℕ → Turn
 quote_or_url b = if is_quote b then At (Quoted b) else First Url
 
@@ -48,7 +48,7 @@ behind b = if is_white b then At Behind else if separates b then At Before else 
 abbrev pub before : ℕ → Turn
 before b = if is_white b then At Before else url_begins b
 
--- behind `u`, `ur`, `url` and white: where no `=` comes all is the URL's own
+-- after `u`, `ur`, `url` and white: if no `=` comes, all is the URL's own
 abbrev pub u : ℕ → Turn
 u b = if b == 114 || b == 82 then With R else With Url
 
@@ -58,7 +58,7 @@ r b = if b == 108 || b == 76 then With L else With Url
 abbrev pub l : ℕ → Turn
 l b = if is_white b then With L else if b == 61 then At Equals else With Url
 
--- behind `url=`
+-- after `url=`
 abbrev pub equals : ℕ → Turn
 equals b = if is_white b then At Equals else quote_or_url b
 
@@ -112,7 +112,7 @@ step s b = turned s b (turn s.place b)
 abbrev pub nothing_read : Front
 nothing_read = front Start [] None
 
--- a front with these bytes behind it
+-- a front with these bytes after it
 abbrev pub fed : Front → List ℕ → Front
 fed s [] = s
 fed s (b ∷ bs) = fed (step s b) bs

@@ -1,4 +1,4 @@
--- A content with another URL: what stands outside of the URL is as before, byte by byte.
+-- A content with another URL: what is outside of the URL is as before, byte by byte.
 use Rattle.std.specs.Prelude.{◌≡◌, ◌⊎◌, ℕ, Bool, false, true, not, ◌||◌, List, [], ◌∷◌, ◌++◌, Option, Some, None, ◌==◌}
 use Rattle.std.specs.List.{list_all}
 use Rattle.std.specs.Str.Lossy.{utf8_lossy}
@@ -16,7 +16,7 @@ is_unquoted b = not (is_quote b)
 abbrev pub is_unequal : ℕ → Bool
 is_unequal b = not (b == 61)
 
--- A text that can be a URL here: it has no quotes, begins neither with white nor with `;` or `,`, and where it begins with `u` it
+-- A text that can be a URL here: it has no quotes, begins neither with white nor with `;` or `,`, and if it begins with `u` it
 -- has no `=`.
 pub record IsWritable (first : ℕ) (others : List ℕ) : Type 0 where
   pub unquoted : list_all is_unquoted (first ∷ others) ≡ true
@@ -63,7 +63,7 @@ rewrite_step change w b = record { front = step w.front b; out = out_of change w
 abbrev pub nothing_written : Rewrite
 nothing_written = record { front = nothing_read; out = [] }
 
--- with these bytes behind it
+-- with these bytes after it
 abbrev pub rewrite_fed : Change → Rewrite → List ℕ → Rewrite
 rewrite_fed change w [] = w
 rewrite_fed change w (b ∷ bs) = rewrite_fed change (rewrite_step change w b) bs

@@ -97,7 +97,7 @@ impl Machine {
     }
 }
 
-/// The URL of the content of a refresh, where it has one. The error is want of memory.
+/// The URL of the content of a refresh, if it has one. Fails only if memory runs out.
 #[tactic(auto, unfolding(crate::specs::Refresh::reference_of))]
 pub fn scan(alloc: Global, content: &[u8]) -> Result<Option<String>, AllocError>
     ensures { IfOk result (λ url. option_map string_bytes url ≡ reference_of content.now) }

@@ -2,30 +2,30 @@
 ghost use Rattle.std.specs.Prelude.{◌≡◌};
 ghost use Rattle.refresh_links.specs.Refresh as refresh;
 
-/// Where in the content the next byte stands.
+/// Where in the content the next byte is.
 #[derive(Clone, Copy)]
 pub(crate) enum Place {
     /// Before the time: white.
     Start,
     /// In the time.
     Time,
-    /// Behind the time: white, and perhaps `;` or `,`.
+    /// After the time: white, and perhaps `;` or `,`.
     Behind,
-    /// Behind that: white.
+    /// After that: white.
     Before,
-    /// Behind `u`, which may be the URL's own.
+    /// After `u`, which may be the URL's own.
     U,
-    /// Behind `ur`.
+    /// After `ur`.
     R,
-    /// Behind `url` and white.
+    /// After `url` and white.
     L,
-    /// Behind `url=` and white.
+    /// After `url=` and white.
     Equals,
     /// In a URL without quotes.
     Url,
     /// In a URL between such quotes.
     Quoted(u8),
-    /// Behind a URL in quotes.
+    /// After a URL in quotes.
     Done,
     /// In a content that is no refresh.
     Bad,

@@ -117,8 +117,8 @@ impl Rewriter {
     }
 }
 
-/// The content of a refresh with its URL changed, all other bytes as they were. Where every text that the change makes can be
-/// a URL there, that of the new content is that of the old one, changed. The error is want of memory.
+/// The content of a refresh with its URL changed, all other bytes as they were. If every text that the change makes can be
+/// a URL there, that of the new content is that of the old one, changed. Fails only if memory runs out.
 pub fn rewrite<C: Change>(alloc: Global, change: &C, content: &[u8]) -> Result<Vec<u8>, AllocError>
     ensures content { IfOk result (λ out. out.items ≡ rewritten (C.becomes change.now) content.now) }
     ensures reference { IsWriting (C.becomes change.now) → IfOk result (λ out. reference_of out.items ≡ option_map (changed (C.becomes change.now)) (reference_of content.now)) }

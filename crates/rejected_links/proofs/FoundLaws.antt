@@ -88,7 +88,7 @@ pub unmet_some : (o : Option Rule) (rule : Rule) → Err rule ≡ verdict_from o
 unmet_some None rule is = cc
 unmet_some (Some other) rule is = cc
 
--- what stands after what passes a test, and fails it, is found first
+-- what comes after what passes a test, and fails it, is found first
 find_first : (q : Rule → Bool) (before after : List Rule) (u : Rule) → All (λ r. q r ≡ true) before → q u ≡ false → find (λ r. not (q r)) (before ++ u ∷ after) ≡ Some u
 find_first q [] after u met unmet = ap (λ b. cond (not b) (Some u) (find (λ r. not (q r)) after)) unmet
 find_first q (r ∷ before) after u met unmet =
@@ -108,7 +108,7 @@ is_first plan page kind target rule is = rw is at (verdict-means plan page kind 
 
 -- ---- rejected links
 
--- an edge is rejected just where its target wasn't found and it doesn't meet a rule
+-- an edge is rejected exactly if its target wasn't found and it doesn't meet a rule
 why_from : (plan : Plan) (found : List Text) (page : Text) (kind : EdgeKind) (target : Text) (why : Reason) → rejection plan found page kind target ≡ Some why
     → (rule : Rule) × (first_unmet plan page kind target ≡ Some rule) × (why ≡ reason_of rule) × (list_any (bytes_eq target) found ≡ false)
 why_from plan found page kind target why is = go (list_any (bytes_eq target) found) (first_unmet plan page kind target) refl refl is

@@ -94,7 +94,7 @@ abbrev pub link_cmp : Rejected → Rejected → Ordering
 link_cmp l m =
     ordering_then (slice_cmp nat_cmp (word_of l.reason) (word_of m.reason)) (ordering_then (slice_cmp nat_cmp l.target m.target) (slice_cmp nat_cmp l.page m.page))
 
--- where two texts are the same, their columns don't decide
+-- if two texts are the same, their columns don't decide
 same_columns : (t u : AddressText) (x y : List ℕ) → t ≡ u → slice_cmp nat_cmp (parts_text t ++ 9 ∷ x) (parts_text u ++ 9 ∷ y) ≡ slice_cmp nat_cmp x y
 same_columns t u x y same = subst (λ (v : AddressText). slice_cmp nat_cmp (parts_text t ++ 9 ∷ x) (parts_text v ++ 9 ∷ y) ≡ slice_cmp nat_cmp x y) same (after_same (parts_text t) (9 ∷ x) (9 ∷ y))
 

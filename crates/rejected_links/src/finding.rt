@@ -88,7 +88,7 @@ fn list_rejected<'a>(
     Ok(links)
 }
 
-/// The rejected links of all pages, sorted, each once. The error is that memory is wanting.
+/// The rejected links of all pages, sorted, each once. Fails only if memory runs out.
 pub(crate) fn rejected_links<'a>(
     alloc: Global,
     plan: &Plan,

@@ -28,7 +28,7 @@ fn push_lines(text: &mut String, links: &[RejectedLink<'_>]) -> Result<(), Alloc
 
 /// The log of a harvest: the line of the columns' names, and one for each link of an answered page that the report has no line of,
 /// with the first rule that it doesn't meet, sorted by their bytes. A link that meets all rules and is too deep has none, as one
-/// that robots rules refuse, which the report has. Takes n log n steps for n links. The error is that memory is wanting.
+/// that robots rules refuse, which the report has. Takes n log n steps for n links. Fails only if memory runs out.
 pub fn rejected_log<B: Drop>(alloc: Global, harvest: &Harvest<B>) -> Result<String, AllocError>
     ensures { IfOk result (λ text. IsLogOf harvest.now (string_bytes text)) }
 {

@@ -23,7 +23,7 @@ if_sendable (Some value) = if is_sendable value then Some value else None
 abbrev pub some_condition : AddressText → Option Text → Option Text → Option Condition
 some_condition at tag since = if is_some tag || is_some since then Some (record { at = at; tag = tag; since = since }) else None
 
--- that of the page at an address which was told with these values of `ETag` and `Last-Modified`
+-- that of the page at an address which came with these values of `ETag` and `Last-Modified`
 abbrev pub condition_of : AddressText → Option Text → Option Text → Option Condition
 condition_of at etag modified = some_condition at (if_sendable etag) (if_sendable modified)
 

@@ -60,7 +60,7 @@ abbrev pub is_of_body : Text → Bool
 is_of_body name =
     is_named name (codes "transfer-encoding") || is_named name (codes "content-length") || is_named name (codes "trailer") || is_named name (codes "expect")
 
--- a field that asks for a part of a page, or that is for a proxy
+-- a field that requests a part of a page, or that is for a proxy
 abbrev pub is_for_others : Text → Bool
 is_for_others name = is_named name (codes "range") || is_named name (codes "if-range") || is_named name (codes "proxy-authorization")
 

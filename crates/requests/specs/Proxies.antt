@@ -1,4 +1,4 @@
--- Proxies, and which of them is asked for an address (GNU Wget manual, chapter Proxies).
+-- Proxies, and which of them is used for an address (GNU Wget manual, chapter Proxies).
 use Rattle.std.specs.Prelude.{◌&&◌, ◌||◌, ◌==◌, ◌-◌, ℕ, Bool, not, List, [], Option, Some, None, codes, length, map, nat_eq, take, if◌then◌else◌}
 use Rattle.std.specs.Char.{to_ascii_lowercase}
 use Rattle.std.specs.List.{ends_with, list_any, slice_split, starts_with}

@@ -117,7 +117,7 @@ HasNoOther sending at = (condition : Condition) → condition_for sending at ≡
 
 -- ---- proxies
 
--- the proxy that is asked for an address, if one is
+-- the proxy that is used for an address, if one is
 abbrev pub proxy_at : Sending → AddressText → Option Proxy
 proxy_at sending at = proxy_for sending.proxies (scheme_of at) (host_of at)
 

@@ -45,7 +45,7 @@ fn if_sendable(alloc: Global, value: Option<&[u8]>) -> Result<Option<Vec<u8>>, A
 }
 
 impl Condition {
-    /// That of the page at an address which was told with these values of `ETag` and `Last-Modified`, if there is one that may be
+    /// That of the page at an address which came with these values of `ETag` and `Last-Modified`, if there is one that may be
     /// sent as it came: it isn't empty, and has no control byte and at most 8,192 bytes.
     pub fn of(
         alloc: Global,

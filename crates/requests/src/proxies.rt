@@ -1,4 +1,4 @@
-//! Proxies, and which of them is asked for an address (GNU Wget manual, chapter Proxies).
+//! Proxies, and which of them is used for an address (GNU Wget manual, chapter Proxies).
 ghost use Rattle.std.specs.Prelude.{◌≡◌, IfOk, None, option_map};
 ghost use Rattle.std.specs.List.{list_any, slice_split};
 ghost use Rattle.requests.specs.Lines.{trimmed};

@@ -30,7 +30,7 @@ head_ends h =
     text_ends (print_blank h.blank ++ print_version h.minor ++ space ∷ h.digits ++ print_reason h.reason ++ print_end h.line_end)
     (flat_map print_field h.fields) h.last
 
--- where the bytes that stood there had no head, they have none with bytes in which no line ends
+-- if the bytes that were there had no head, they have none with bytes in which no line ends
 pub no_head_more : (first new : List ℕ) → HasNoResponse first → HasNoLineEnd first new → HasNoResponse new
 no_head_more first new none x h rest reads = by (cases_lt (length first) (length (print_response h)))
   where

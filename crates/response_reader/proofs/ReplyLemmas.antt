@@ -24,6 +24,6 @@ parts_of_gathered r found head body kept is =
 pub at_some : {X : Type 0} (o : Option X) (x : X) (P : X → Type 0) → o ≡ Some x → IfSome o P → P x
 at_some o x P is p = subst (λ (q : Option _). IfSome q P) is p
 
--- and what it says where there is none
+-- and what it says if there is none
 pub at_none : {X : Type 0} (o : Option X) (P : Type 0) → o ≡ None → IfNone o P → P
 at_none o P is p = subst (λ (q : Option _). IfNone q P) is p

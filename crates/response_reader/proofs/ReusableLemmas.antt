@@ -1,4 +1,4 @@
--- What was used of a wire, all of it and nothing behind it.
+-- What was used of a wire, all of it and nothing after it.
 use Rattle.std.proofs.Common.{◌≡◌, Bool, IsFalse, ℕ, ◌+◌, ◌-◌, ◌≤◌, List, [], ◌++◌, length, refl, sym, ap, ◌∙◌, subst, arith, append_assoc, append-nil, length-append, Option, Some, None}
 use Rattle.std.specs.Prelude.{not, ◌&&◌, ◌==◌}
 use Rattle.std.specs.Io.KnownBytes.{Consumes, IsAtEnd, prepend_known}
@@ -136,7 +136,7 @@ reusable_first limits a b c r same x = record {
 pub told_first : (a b : Option (List ℕ)) (P : List ℕ → Type 0) → Consumes a b [] → OfBytes b P → OfBytes a P
 told_first a b P same told = told_before a b [] P P same (λ tail p. p) told
 
--- where the first read gave nothing, there was nothing
+-- if the first read gave nothing, there was nothing
 pub ends_first : (old new : List ℕ) (known left : Option (List ℕ)) (most : ℕ) (more : Bool) → IsFalse more → Fills old new known left most more → IsAtEnd known
 ends_first old new known left most more ended f = at_end known left f.got f.bytes (f.none ended) (f.end ended)
   where

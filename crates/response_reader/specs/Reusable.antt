@@ -1,4 +1,4 @@
--- When a connection serves again behind a response (RFC 9112, sections 9.3 and 9.6).
+-- When a connection serves again after a response (RFC 9112, sections 9.3 and 9.6).
 use Rattle.std.specs.Prelude.{◌≡◌, ℕ, Bool, true, false, not, ◌&&◌, ◌==◌, List, [], ◌++◌, length, Option}
 use Rattle.std.specs.Io.KnownBytes.{Consumes}
 use Rattle.httparse.specs.Grammar.{ResponseHead}
@@ -21,8 +21,8 @@ abbrev pub IsResponseWith : Limited → ResponseHead → Framing → List ℕ �
 IsResponseWith limits last framing bytes r rest =
     (x : IsResponse limits bytes r rest) × (x.heads.last ≡ last) × (x.framing ≡ framing)
 
--- of a wire a response within these limits was read, text, and over behind it. Its connection serves again just where the last head lets it
--- stand, the body doesn't end with the input, and nothing came behind the response
+-- of a wire a response within these limits was read, text, and over after it. Its connection serves again exactly if the last head lets it
+-- stay open, the body doesn't end with the input, and nothing came after the response
 pub record Reusable (limits : Limited) (before after : Option (List ℕ)) (reusable : Bool) : Type 0 where
   pub last : ResponseHead
   pub framing : Framing

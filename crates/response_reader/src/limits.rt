@@ -20,7 +20,7 @@ pub const MAX_RESPONSE: usize = 67_108_864;
 /// The most bytes to which a body can be limited.
 pub const LONGEST_BODY: u64 = 1_152_921_504_606_846_976;
 
-/// How many bytes a body may have, and a response with its heads and with what stands between its chunks. The longest heads fit
+/// How many bytes a body may have, and a response with its heads and with what is between its chunks. The longest heads fit
 /// beside the longest body.
 #[derive(Clone, Copy)]
 pub struct Limits {

@@ -27,10 +27,9 @@ pub enum RequestFault {
     Device,
 }
 
-/// Writes the request for an address: a GET of its path and query, of https of the whole address, with its
-/// host, and its port where that isn't the scheme's. The text is put together on the stack and goes out in one write where that is taken
-/// whole, so that it isn't cut into small packets. After a fault a front of
-/// it was written, and the wire isn't to be used again.
+/// Writes the request for an address: a GET of its path and query, of https of the whole address, with its host, and its port if that
+/// isn't the scheme's. The text is put together on the stack and goes out in one write if that is taken whole, so that it isn't cut into
+/// small packets. After a fault a front of it was written, and the wire isn't to be used again.
 pub fn write_request<W: Wire>(wire: &mut W, address: &Address) -> Result<(), RequestFault>
     ensures written { OnOk result (Appends (W.outgoing wire.old) (W.outgoing wire.new) (request_text address.now)) }
     ensures part { OnErr result (SendsFront (W.outgoing wire.old) (W.outgoing wire.new) (request_text address.now)) }
@@ -46,8 +45,8 @@ pub fn write_request<W: Wire>(wire: &mut W, address: &Address) -> Result<(), Req
     write_with(wire, address, b"Connection: close\r\n")
 }
 
-/// Writes the request for an address over a connection that is to stay open behind the response: the
-/// same text, but that it doesn't ask to close it (RFC 9112, section 9.3).
+/// Writes the request for an address over a connection that is to stay open after the response: the same text, except
+/// that it doesn't request closing it (RFC 9112, section 9.3).
 pub fn write_kept_request<W: Wire>(wire: &mut W, address: &Address) -> Result<(), RequestFault>
     ensures written { OnOk result (Appends (W.outgoing wire.old) (W.outgoing wire.new) (kept_request_text address.now)) }
     ensures part { OnErr result (SendsFront (W.outgoing wire.old) (W.outgoing wire.new) (kept_request_text address.now)) }
@@ -97,7 +96,7 @@ fn put(text: &mut RequestText, bytes: &[u8])
     }
 }
 
-/// What is asked for: of https the whole address, since a proxy is asked (RFC 9112, section 3.2.2).
+/// What is requested: of https the whole address, since it goes to a proxy (RFC 9112, section 3.2.2).
 fn target(address: &Address) -> &str
     ensures { result.now ≡ target_by (scheme_of address.now) address.now }
 {
@@ -127,8 +126,7 @@ fn put_request(text: &mut RequestText, address: &Address, closing: &[u8])
     put(text, b"\r\n");
 }
 
-/// Writes all the bytes, where so many writes of the request were interrupted before, and says how
-/// many were after.
+/// Writes all the bytes, given how many writes of the request were interrupted before, and says how many were after.
 fn write_all<W: Wire>(wire: &mut W, bytes: &[u8], interrupted: u32) -> Result<u32, RequestFault>
     requires { interrupted < MAX_INTERRUPTED }
     ensures written { OnOk result (Appends (W.outgoing wire.old) (W.outgoing wire.new) bytes.now) }

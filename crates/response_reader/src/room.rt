@@ -5,7 +5,7 @@ use crate::incoming::Incoming;
 use std::alloc::{AllocError, Global};
 
 /// Room for the bytes of a response, 65,536 bytes once one was read. Whoever reads many keeps it from each to the next, so that it
-/// is cleared once and not for each; what an earlier response left there is never seen. Behind a fault it is given back.
+/// is cleared once and not for each; what an earlier response left there is never seen. After a fault it is given back.
 #[derive(Drop)]
 pub struct Room {
     spare: Option<Incoming>,
@@ -17,7 +17,7 @@ impl Room {
         Room { spare: None }
     }
 
-    /// What takes the bytes of a response and has none yet. The error is want of memory.
+    /// What takes the bytes of a response and has none yet. Fails only if memory runs out.
     pub(crate) fn take(&mut self, alloc: Global) -> Result<Incoming, AllocError>
         ensures none { IfOk result (λ s. s.unread ≡ []) }
         ensures uninterrupted { IfOk result (λ s. s.interrupted ≡ 0) }

@@ -1,4 +1,4 @@
-//! A wire over a stream of bytes, as a TCP connection.
+//! A wire over a stream of bytes, such as a TCP connection.
 ghost use Rattle.std.specs.Prelude.{◌≡◌, false, None};
 ghost use Rattle.std.specs.Io.{ReadsAtMost, WritesAtMost};
 ghost use Rattle.std.specs.Io.KnownBytes.{ReadConsumes, WriteAppends};
@@ -9,9 +9,9 @@ use crate::wire::{Wire, WireFault};
 use std::io::{ErrorKind, Read, Write};
 use std::marker::Model;
 
-/// A connection over a stream, as a `TcpStream`. Of a stream of the system nothing is known, so
-/// contracts say only how its failures are counted. A time limit of the stream's that runs out, on a
-/// read or a write, is a failure: the connection is given up, and the wire tells that it timed out.
+/// A connection over a stream, such as a `TcpStream`. Of a stream of the system nothing is known, so contracts say
+/// only how its failures are counted. A time limit of the stream's that runs out, on a read or a write, is a failure:
+/// the connection is given up, and the wire reports that it timed out.
 #[derive(Drop)]
 pub struct TcpWire<S: Read + Write + Drop> {
     stream: S,
@@ -44,7 +44,7 @@ fn is_late(kind: ErrorKind) -> bool {
     matches!(kind, ErrorKind::WouldBlock | ErrorKind::TimedOut)
 }
 
-// What a stream gives to a read: its next bytes, where it tells them.
+// What a stream gives to a read: its next bytes, if they are known.
 fn read_from<S: Read>(
     stream: &mut S,
     room: &mut [u8],

@@ -27,7 +27,7 @@ fn push_field(text: &mut Vec<u8>, name: &[u8], value: &[u8]) -> Result<(), Alloc
     text.extend_from_slice(b"\r\n")
 }
 
-// The field line of this name, where there is a value.
+// The field line of this name, if there is a value.
 fn push_value(text: &mut Vec<u8>, name: &[u8], value: &Option<Vec<u8>>) -> Result<(), AllocError>
     ensures { OnOk result (text.new.items ≡ text.old.items ++ flat_map field_line (field_of_value name.now (option_map vec_items value.now))) }
 {
@@ -37,7 +37,7 @@ fn push_value(text: &mut Vec<u8>, name: &[u8], value: &Option<Vec<u8>>) -> Resul
     }
 }
 
-// The field line of a content coding, where there is one.
+// The field line of a content coding, if there is one.
 fn push_coding(text: &mut Vec<u8>, coded: bool) -> Result<(), AllocError>
     ensures { OnOk result (text.new.items ≡ text.old.items ++ flat_map field_line (field_of_coding coded)) }
 {
@@ -72,7 +72,7 @@ fn push_fields(text: &mut Vec<u8>, response: &Response) -> Result<(), AllocError
     push_len(text, response.status, response.body.len())
 }
 
-/// Adds the head with which a response is written down; its body follows it. The error is want of memory, and then a front of the
+/// Adds the head with which a response is written down; its body follows it. Fails only if memory runs out, and then a front of the
 /// head may have been added.
 #[tactic(auto, unfolding(crate::specs::Written::head_text))]
 pub fn push_head(text: &mut Vec<u8>, response: &Response) -> Result<(), AllocError>

@@ -305,7 +305,7 @@ lives_from m keeps order olds news before after told status later same (shown, e
 
 -- ---- what was found, apart from the events that led there
 
--- what a report tells of events it tells of what they found
+-- what a report says of events it says of what they found
 found_report : {F B : Type 0} (crew : Crew F B) (order : Order) (m : Answers) (events : List Event) (lines : List Line) (bodies : List B) → IsReportLive crew order m events lines bodies
     → IsReportFound crew order m lines bodies
 found_report crew order m events lines bodies (inl (within, r, is)) = inl (within, subst (λ (a : Answers). IsFound crew order.plan order.names a lines bodies) is r.found)

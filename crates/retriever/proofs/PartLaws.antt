@@ -96,7 +96,7 @@ turned p q r parts = record {
 abbrev pub AreKept : Plan → List Line → Type 0
 AreKept plan lines = All (λ line. is_some line.name ≡ is_to_keep plan line) lines
 
--- on the part's hosts an address is open by the one just if it is by the other
+-- on the part's hosts an address is open by the one exactly if it is by the other
 module _ (host : Text → Text) (p q : Policy) (m : Answers) (part : IsPart host p q) where
   part_start : (u : Text) → IsHome host q u → is_start p u ≡ is_start q u
   part_start u at_home =

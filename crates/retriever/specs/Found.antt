@@ -60,7 +60,7 @@ asks_of crew = all_gained crew.means crew.first crew.left
 
 -- ---- what was found
 
--- Just this is recorded of what the fetchers were asked, each ask made once. The lines are those of the breadth-first retrieval of
+-- Exactly this is recorded of what the fetchers were asked, each ask made once. The lines are those of the breadth-first retrieval of
 -- what is recorded, whose pages have their names by these rules and by the kinds of their bodies, and the bodies those of the pages with names, each one that the
 -- fetchers may have answered.
 pub record IsFound {F B : Type 0} (crew : Crew F B) (plan : Plan) (naming : PageNames) (recorded_as : Answers) (lines : List Line) (bodies : List B) : Type 0 where
@@ -85,7 +85,7 @@ pub record IsFrontFound {F B : Type 0} (crew : Crew F B) (plan : Plan) (naming :
   pub named : AreNamed plan naming (kinds_of crew.keeps.kind_of bodies) lines
   pub kept : AllZip (IsBodyOf (MaySay crew) recorded_as) (named_pages lines) bodies
 
--- What a report tells: all that is to be found, if the bodies have no more bytes than the quota; a front of it, if they have more.
+-- What a report says: all that is to be found, if the bodies have no more bytes than the quota; a front of it, if they have more.
 abbrev pub IsReportFound : {F B : Type 0} → Crew F B → Order → Answers → List Line → List B → Type 0
 IsReportFound crew order m lines bodies =
     let passed = IsPassed order.quota (sum_by crew.keeps.len_of bodies) in ((¬ passed) × IsFound crew order.plan order.names m lines bodies) ⊎ (passed × IsFrontFound crew order.plan order.names m lines bodies)
@@ -144,9 +144,9 @@ IsPutAt true all keeps m lines bodies old new =
     (records : List Recorded) × AreRecordsOf m records × IsShelvedAs (links_become (kept_by lines records)) all keeps.holds (names_in lines) bodies old new
     × (new.failed ≡ old.failed)
 
--- The retrieval that is ordered found what is to be found, or a front of it as large as the quota, and this came of it. Before its end nothing is put into the folder.
--- The table is full only where what is recorded has more candidates than the plan lets be held. Memory may run out at any time,
--- and may do so when a put has failed. A check of several workers may fail; then nothing more is said.
+-- The retrieval that is ordered found what is to be found, or a front of it as large as the quota, and this is the result. Before its end nothing is
+-- put into the folder. The table is full only if what is recorded has more candidates than the plan lets be held. Memory may run out at any time, and
+-- may do so when a put has failed. A check of several workers may fail; then nothing more is promised.
 abbrev pub EndsFound : {F B : Type 0} → Crew F B → Order → Holding → Holding → LiveEnd → Type 0
 EndsFound {B = B} crew order old new (Finished (Retrieved lines)) =
     (m : Answers) × (bodies : List B) × IsReportFound crew order m lines bodies × IsPutAt order.converts true crew.keeps m lines bodies old new

@@ -63,7 +63,7 @@ pub record IsFrontLive {F B : Type 0} (crew : Crew F B) (plan : Plan) (naming : 
   pub recorded : AreRecordedOrLost (asks_of crew) state
   pub found : IsFrontFound crew plan naming (answers state) lines bodies
 
--- The events of a report, by which this is recorded: it tells all that is to be found, if the bodies have no more bytes than the quota, else
+-- The events of a report, by which this is recorded: it says all that is to be found, if the bodies have no more bytes than the quota, else
 -- a front of it.
 abbrev pub IsReportLive : {F B : Type 0} → Crew F B → Order → Answers → List Event → List Line → List B → Type 0
 IsReportLive crew order m events lines bodies =

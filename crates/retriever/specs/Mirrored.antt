@@ -25,7 +25,7 @@ links_become kept place body text = IsBodyAnew kept (slice_index_or kept.kept pl
 abbrev pub kept_as_named : {B : Type 0} → Harvested B → List (List ℕ) → Kept
 kept_as_named h names = record { kept = h.kept; names = names; records = h.records }
 
--- what the lines of a report say that was kept, where these are the records
+-- what the lines of a report say that was kept, if these are the records
 abbrev pub kept_by : List Line → List Recorded → Kept
 kept_by lines records = record { kept = named_pages lines; names = names_in lines; records = records }
 

@@ -8,7 +8,7 @@ use Rattle.options.specs.declared.order.Source.TheVariants as source
 use Rattle.retriever.specs.declared.fault.Fault.{Fault}
 use Rattle.retriever.specs.declared.fault.Fault.TheVariants as fault
 
--- the words order just this, of a site that isn't on the network
+-- the words order exactly this, of a site that isn't on the network
 abbrev pub IsInputOrder : List (List ℕ) → Order → Type 0
 IsInputOrder words order = (order_of words ≡ Ok (ordered_by order)) × (order.source ≢ source.Live)
 
@@ -16,7 +16,7 @@ IsInputOrder words order = (order_of words ≡ Ok (ordered_by order)) × (order.
 abbrev pub AreForInput : List (List ℕ) → Type 0
 AreForInput words = (order : Order) × IsInputOrder words order
 
--- the words order just this, of a site on the network
+-- the words order exactly this, of a site on the network
 abbrev pub IsLiveOrder : List (List ℕ) → Order → Type 0
 IsLiveOrder words order = (order_of words ≡ Ok (ordered_by order)) × (order.source ≡ source.Live)
 

@@ -37,7 +37,7 @@ IsLogTaken IsLog old new = (new ≡ old) ⊎ ((text : List ℕ) × IsLog text ×
 
 -- ---- of an input
 
--- the log of a whole site: of a harvest that has just what is to be found of it
+-- the log of a whole site: of a harvest that has exactly what is to be found of it
 pub record IsLogOfSite (order : Order) (site : RecordedAnswers) (text : List ℕ) : Type 0 where
   pub harvest : Harvested BodyValue
   pub follows : harvest.plan ≡ Some order.plan

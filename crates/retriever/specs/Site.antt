@@ -104,7 +104,7 @@ plain_names_by true rules pages kinds = ended_names rules pages kinds
 abbrev pub AreNamesOf : PageNames → List Text → List BodyKind → List (List ℕ) → Type 0
 AreNamesOf naming pages kinds names = IsNamingBy naming.has_endings (plain_names_by naming.has_endings naming.rules pages kinds) names
 
--- Just the pages to keep have a name, and it is the one that the list of all of them gives it, in the order of their
+-- Only the pages to keep have a name, and it is the one that the list of all of them gives it, in the order of their
 -- addresses, by these rules (GNU Wget manual, Directory Options), and by the kinds of their bodies if names have endings.
 pub record AreNamed (plan : Plan) (naming : PageNames) (kinds : List BodyKind) (lines : List Line) : Type 0 where
   pub kept : All (λ line. is_some line.name ≡ is_to_keep plan line) lines

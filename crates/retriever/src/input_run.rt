@@ -213,7 +213,7 @@ pub(crate) fn run_and_log<H: Threads + Wait + Sync, R: Read, W: Write, L: Reject
     }
 }
 
-/// Runs on words: reads them as an order, and runs by that. Of several faults of the words the lowest is named, but that memory may
+/// Runs on words: reads them as an order, and runs by that. Of several faults of the words the lowest is named, except that memory may
 /// run out before any. Words that order no site of an input end the run before the first byte is read.
 pub fn run<H: Threads + Wait + Sync, R: Read, W: Write>(
     rt: &H,

@@ -125,7 +125,7 @@ fn files_whole(fault: WriteFault) -> usize
     }
 }
 
-// Tells a harvest's text when its files were put; if links of some weren't changed, with the line that says so.
+// Writes a harvest's text when its files were put; if links of some weren't changed, with the line that says so.
 fn tell_put<B: Drop, W: Write>(
     all: bool,
     harvest: &Harvest<B>,
@@ -229,7 +229,7 @@ fn finish_harvest<B: HasKind + Drop, D: Shelf<B>, W: Write>(
     }
 }
 
-// Puts and tells what was retrieved before a stop: a front that the quota ended as a harvest, and of any other stop the cause.
+// Puts and reports what was retrieved before a stop: a front that the quota ended as a harvest, and of any other stop the cause.
 fn finish_halt<B: HasKind + Drop, D: Shelf<B>, W: Write>(
     alloc: Global,
     converts: bool,
@@ -258,7 +258,7 @@ fn finish_halt<B: HasKind + Drop, D: Shelf<B>, W: Write>(
     }
 }
 
-/// Puts and tells what was retrieved, whose kept pages have their names by these rules, with their links changed or not. The error is
+/// Puts and reports what was retrieved, whose kept pages have their names by these rules, with their links changed or not. The error is
 /// that the writer failed.
 pub(crate) fn finish<B: HasKind + Drop, D: Shelf<B>, W: Write>(
     alloc: Global,
@@ -331,14 +331,14 @@ where
     (status, retrieved)
 }
 
-/// Retrieves the live site that the order says by these fetchers, a worker for each, 1 to 64 of them: asks for what its plan
-/// wants, puts the kept pages into the folder, each whole and under its name by the order's rules, and then writes the report, behind the trace
-/// where the order asks for it. Answers the status: that of [`exit_status`] for a report. Where a put fails no other is made,
-/// and the line `files written K` stands behind the report, K being how many files are whole; the status is 3. If links are to
-/// lead from file to file, each file has its body with its links changed; if some have their bodies as they came, the line
-/// `links not changed` is behind the report, and the status is 3. Where the retrieval stopped the line of its cause stands in place of the
-/// report, nothing is put, and the status is 1; so it is where memory runs out. If the order's quota ended it, what was retrieved until
-/// then is put and reported. If the writer fails the status is 1, and a front of the text may have been written.
+/// Retrieves the live site that the order says by these fetchers, a worker for each, 1 to 64 of them: requests what its plan wants, puts the
+/// kept pages into the folder, each whole and under its name by the order's rules, and then writes the report, after the trace if the order
+/// wants one. Returns the status: that of [`exit_status`] for a report. If a put fails, no other is made, and the line `files written K`
+/// follows the report, K being how many files are whole; the status is 3. If links are to lead from file to file, each file has its body with
+/// its links changed; if some have their bodies as they came, the line `links not changed` follows the report, and the status is 3. If the
+/// retrieval stopped, the line of its cause is in place of the report, nothing is put, and the status is 1; so it is if memory runs out. If the
+/// order's quota ended it, what was retrieved until then is put and reported. If the writer fails the status is 1, and a front of the text may
+/// have been written.
 pub fn live<H: Threads + Wait + Sync, F: Fetcher + Send, D: Shelf<F::Body>, W: Write>(
     rt: &H,
     alloc: Global,

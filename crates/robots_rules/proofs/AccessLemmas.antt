@@ -107,7 +107,7 @@ RulesAllow_from text rules longest answer so = (
 
 -- ---- the definitions as values
 
--- a rule with a pattern applies where its parts match
+-- a rule with a pattern applies if its parts match
 pub applies_by_value : (text : List ℕ) (rule : RuleValue) (b : Bool) → 1 ≤ length rule.pattern → b ≡ is_match is_run takes (matching_parts rule.pattern) text → IsTrue b ↔ Applies text rule
 applies_by_value text rule b some is =
     let cut = is_match-cuts is_run takes (matching_parts rule.pattern) text in
@@ -170,7 +170,7 @@ is_longest-is rules text rule listed = (
       ])),
 )
 
--- the value is true of just the paths that are allowed
+-- the value is true exactly of the paths that are allowed
 pub rules_allow-is : (rules : List RuleValue) (text : List ℕ) → IsTrue (rules_allow rules text) ↔ RulesAllow rules text
 unfolding rules_allow
 rules_allow-is rules text =
@@ -205,12 +205,12 @@ allowed_by_value set path b is = rw is (is_allowed-is set path)
 pub closed_value : (set : RuleSetValue) (path : List ℕ) → set.closed ≡ true → false ≡ is_allowed set path
 closed_value set path closed = rw closed refl
 
--- where it isn't closed, its rules say what is allowed
+-- if it isn't closed, its rules say what is allowed
 pub opened_value : (set : RuleSetValue) (path : List ℕ) (rules : List RuleValue) (text : List ℕ) (b : Bool) → set.closed ≡ false → b ≡ rules_allow rules text → rules ≡ set.rules → text ≡ normal_path path
     → b ≡ is_allowed set path
 opened_value set path rules text b opened is same normal = rw opened (is ∙ ap (λ rs. rules_allow rs text) same ∙ ap (rules_allow set.rules) normal)
 
--- where nothing is stated every path is allowed
+-- if nothing is stated, every path is allowed
 pub nothing_stated : (closed : Bool) (rules : List RuleValue) (text : List ℕ) → closed ≡ false → (length rules == 0) ≡ true → true ≡ (not closed && rules_allow rules text)
 unfolding rules_allow
 nothing_stated closed [] text opened none = rw opened refl

@@ -4,13 +4,13 @@ use Rattle.std.specs.List.{list_any, flat_map, filter}
 use Rattle.robots_rules.specs.Lines.{LineValue, agent, rule, RuleLine}
 use Rattle.robots_rules.specs.Groups.{Group, Groups, agent_joined, with_agent, groups_of, rules_naming, lines_of_group, EachStands, AreGroups}
 
--- the rules behind a user agent that passes: whether one did in this group, and whether a rule stood since
+-- the rules after a user agent that passes: whether one did in this group, and whether a rule came since
 unfoldable pub collect : (List ℕ → Bool) → Bool → Bool → List LineValue → List RuleLine
 collect names ours behind [] = []
 collect names ours behind (agent name ∷ lines) = collect names (names name || (not behind && ours)) false lines
 collect names ours behind (rule stated ∷ lines) = cond ours (stated ∷ []) [] ++ collect names ours true lines
 
--- the rules of the first group where it is ours already, and of those that name us
+-- the rules of the first group if it is ours already, and of those that name us
 first_ours : (List ℕ → Bool) → Bool → List Group → List RuleLine
 first_ours names ours [] = []
 first_ours names ours (group ∷ groups) = cond (ours || list_any names group.agents) group.rules [] ++ rules_naming names groups
@@ -22,7 +22,7 @@ naming-cons names group groups = by_test (list_any names group.agents)
     by_test true = refl
     by_test false = refl
 
--- as where a rule stood since the last user agent
+-- as if a rule came since the last user agent
 open_rest : (List ℕ → Bool) → Bool → List LineValue → List RuleLine
 open_rest names ours lines = cond ours (groups_of lines).strays [] ++ rules_naming names (groups_of lines).groups
 
@@ -48,7 +48,7 @@ first_joined names ours name next lines rest = by_groups rest.groups
     by_groups [] = none_left (ours || (names name || false))
     by_groups (group ∷ groups) = ap (λ b. cond b group.rules [] ++ rules_naming names groups) (or_assoc ours (names name) (list_any names group.agents))
 
--- the rest where an agent stands just before
+-- the rest if an agent is just before
 agent_rest : (List ℕ → Bool) → Bool → List LineValue → List RuleLine
 agent_rest names ours [] = open_rest names ours []
 agent_rest names ours (agent name ∷ lines) = first_ours names ours (groups_of (agent name ∷ lines)).groups

@@ -58,7 +58,7 @@ rule_by-is key new allows pattern =
     let with_pattern : List ℕ → RuleValue = λ p. record { allows = new.allows; pattern = p } in
     ap with_allows allows ∙ ap with_pattern pattern
 
--- a rule stands there already where its key was seen
+-- a rule is there already if its key was seen
 seen-is : {Z : Type 0} (seen : List (Bool × Vec ℕ Z)) (kept : List RuleValue) (key : Bool × Vec ℕ Z) (new : RuleValue) → map rule_by seen ≡ kept → rule_by key ≡ new → list_any (is_same_rule new) kept ≡ list_any (key_eq key) seen
 seen-is seen kept key new keys is =
     sym (list_any-keys key seen ∙ ap (list_any (is_same_rule (rule_by key))) keys ∙ ap (λ (r : RuleValue). list_any (is_same_rule r) kept) is)
@@ -89,7 +89,7 @@ keys-put seen more key new added some is told put =
 in_one : (x y : RuleValue) → Contains (x ∷ []) y → x ≡ y
 in_one x y h = elim (Contains-push_cases [] x y h) [ inl (k, below, is) ↦ absurd (omega arith) | inr same ↦ same ]
 
--- a rule with a pattern stands among the kept ones where it did before or is the new one
+-- a rule with a pattern is among the kept ones if it was before or is the new one
 with_rule-members : (so : List RuleValue) (x r : RuleValue) → 1 ≤ length r.pattern → Contains (with_rule so x) r ↔ (Contains so r ⊎ (x ≡ r))
 with_rule-members so x r some =
     elim (cases_Bool (length x.pattern == 0 || list_any (is_same_rule x) so)) [

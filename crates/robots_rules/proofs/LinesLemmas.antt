@@ -1,4 +1,4 @@
--- Where a line's key and value stand.
+-- The places of a line's key and value.
 use Rattle.std.proofs.Common.{◌≡◌, ℕ, ◌+◌, ◌≤◌, Bool, true, false, cond, not, ◌==◌, List, [], ◌∷◌, ◌++◌, length, take, drop, map, Option, Some, None, sym, refl, ap, ◌∙◌, arith, append-nil}
 use Rattle.std.proofs.lemmas.Bool.{cond-true, cond-false, ltb-false}
 use Rattle.std.proofs.lemmas.List.Quantifiers.{position-Some}
@@ -23,7 +23,7 @@ further p x xs true e h = (let here : position_or_len p (x ∷ xs) ≡ 0 = ap (�
 further p x xs false e h =
     (let next : position_or_len p (x ∷ xs) ≡ 1 + position_or_len p xs = ap (λ b. cond (not b) (1 + position_or_len p xs) 0) e in (omega arith, refl))
 
--- where none passes, the test of the whole fails
+-- if none passes, the test of the whole fails
 list_any-not_found : {X : Type 0} (p : X → Bool) (xs : List X) → length xs ≤ position_or_len p xs → list_any p xs ≡ false
 list_any-not_found p [] h = refl
 list_any-not_found p (x ∷ xs) h = let rest = further p x xs (p x) refl h in rw rest.1 (list_any-not_found p xs rest.0)

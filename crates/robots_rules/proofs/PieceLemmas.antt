@@ -25,7 +25,7 @@ same_bool true b f g = sym (f refl)
 same_bool false true f g = g refl
 same_bool false false f g = refl
 
--- what stands before the first `*` is a piece
+-- what is before the first `*` is a piece
 pub IsPiece-take : (xs : List ℕ) (n : ℕ) → n ≤ length xs → ((k : ℕ) → k < n → is_run (get_or xs k 0) ≡ true → ⊥) → IsPiece (take n xs)
 IsPiece-take xs zero within none = tt
 IsPiece-take [] (suc n) within none = absurd (omega arith)
@@ -58,7 +58,7 @@ matched-front (x ∷ piece) ps (y ∷ text) plain h =
 
 -- ---- a piece in the middle
 
--- where some end of the text matches, the piece stands at a place of it behind which some end matches the rest
+-- if some end of the text matches, the piece is at a place of it after which some end matches the rest
 pub place_of : (piece ps text : List ℕ) → IsPiece piece → some_end (matched (piece ++ 42 ∷ ps)) text ≡ true
     → (j : ℕ) × (rest : List ℕ) × (j ≤ length text) × (drop j text ≡ piece ++ rest) × (some_end (matched ps) rest ≡ true)
 place_of piece ps text plain h =
@@ -69,12 +69,12 @@ place_of piece ps text plain h =
     sym (matched-behind piece (42 ∷ ps) behind.0 plain ∙ is_match-run is_run takes 42 ps behind.0 refl) ∙ ap (matched (piece ++ 42 ∷ ps)) (sym behind.1) ∙ cut.3 in
     (length (cut.0), behind.0, omega (arith, ap length cut.2, length-append cut.0 cut.1), at, later)
 
--- a piece that stands nowhere matches no end
+-- a piece that is at no place matches no end
 pub some_end-nowhere : (piece ps text : List ℕ) → IsPiece piece → ((i : ℕ) → i ≤ length text → LacksTextAt piece text i) → some_end (matched (piece ++ 42 ∷ ps)) text ≡ false
 some_end-nowhere piece ps text plain none =
     false_from_ne_true _ (λ h. let place = place_of piece ps text plain h in none place.0 place.2 place.1 place.3)
 
--- a piece may as well stand at its leftmost place: an end behind any other place of it is an end behind this one
+-- a piece may as well be at its leftmost place: an end after any other place of it is an end after this one
 pub some_end-leftmost : (piece ps text : List ℕ) (i k : ℕ) → IsPiece piece → ((j : ℕ) → j < i → LacksTextAt piece text j) → HasTextAt piece text i k
     → some_end (matched (piece ++ 42 ∷ ps)) text ≡ some_end (matched ps) (drop k text)
 some_end-leftmost piece ps text i k plain before here =
@@ -121,7 +121,7 @@ matched-alone piece text plain = (
 pub same_alone : (piece text : List ℕ) (b : Bool) → IsPiece piece → IsTrue b ↔ (piece ≡ text) → b ≡ matched piece text
 same_alone piece text b plain means = same_bool _ _ (λ e. (matched-alone piece text plain).1 (means.0 e)) (λ e. means.1 ((matched-alone piece text plain).0 e))
 
--- a last piece matches some end where it is the end
+-- a last piece matches some end if it is the end
 pub same_end : (piece text : List ℕ) (b : Bool) → IsPiece piece → (b ≡ true → text ≡ take (length text - length piece) text ++ piece) → ((front : List ℕ) → text ≡ front ++ piece → b ≡ true) → b ≡ some_end (matched piece) text
 same_end piece text b plain is from =
     same_bool _ _
@@ -136,7 +136,7 @@ same_end piece text b plain is from =
 
 -- ---- a front of a path, and what follows it
 
--- parts match the text just where those behind a first piece match what follows it there
+-- parts match the text exactly if those after a first piece match what follows it there
 pub piece_behind : (piece others text rest : List ℕ) → IsPiece piece → text ≡ piece ++ rest → matched (piece ++ others) text ≡ matched others rest
 piece_behind piece others text rest plain is = ap (matched (piece ++ others)) is ∙ matched-behind piece others rest plain
 
@@ -178,7 +178,7 @@ runs_take (run ∷ parts) text some runs =
     ∙ some_end-drop (matched parts) (length text) text
     (some_end-here (matched parts) (drop (length text) text) (ap (matched parts) (drop_all (length text) text (omega arith)) ∙ is_match-end is_run takes parts ∙ both.1))
 
--- what matches behind a first piece matches the whole
+-- what matches after a first piece matches the whole
 pub behind_if : (answer : Option Bool) (parts piece others front behind : List ℕ) → IsPiece piece → parts ≡ piece ++ others → front ≡ piece ++ behind
     → IfSome answer (λ b. (rest : List ℕ) → b ≡ matched others (behind ++ rest)) → IfSome answer (λ b. (rest : List ℕ) → b ≡ matched parts (front ++ rest))
 behind_if None parts piece others front behind plain whole is h = tt

@@ -48,7 +48,7 @@ unreserved_escapes : normal_path (codes "/foo/bar/%62%61%7A") ≡ codes "/foo/ba
 unfolding normal
 unreserved_escapes = refl
 
--- RFC 9309, section 2.2.3: `*` and `$` that stand for themselves
+-- RFC 9309, section 2.2.3: `*` and `$` that mean themselves
 special_octets : normal_path (codes "/path/file-with-a-*.html") ≡ normal_of (codes "/path/file-with-a-%2a.html")
 unfolding normal percent_encode_byte
 special_octets = refl

@@ -15,7 +15,7 @@ pub record Group : Type 0 where
   pub agents : List (List ℕ)
   pub rules : List RuleLine
 
--- the rules at the front that stand in no group, and the groups
+-- the rules at the front that are in no group, and the groups
 pub record Groups : Type 0 where
   pub strays : List RuleLine
   pub groups : List Group
@@ -25,7 +25,7 @@ unfoldable pub agent_joined : List ℕ → List Group → List Group
 agent_joined name [] = record { agents = name ∷ []; rules = [] } ∷ []
 agent_joined name (first ∷ others) = record { agents = name ∷ first.agents; rules = first.rules } ∷ others
 
--- a user agent before the rest: it joins the first group where no rule stands between, else it begins a group
+-- a user agent before the rest: it joins the first group if there is no rule between, else it begins a group
 unfoldable pub with_agent : List ℕ → List LineValue → Groups → Groups
 with_agent name (agent next ∷ lines) rest = record { strays = []; groups = agent_joined name rest.groups }
 with_agent name lines rest = record { strays = []; groups = record { agents = name ∷ []; rules = rest.strays } ∷ rest.groups }
@@ -94,7 +94,7 @@ stated_in file = map rule_of (rules_for_us (groups_of (lines_in file)).groups)
 abbrev pub is_same_rule : RuleValue → RuleValue → Bool
 is_same_rule this other = beq this.allows other.allows && bytes_eq this.pattern other.pattern
 
--- the rule goes last, unless it has no octets and so speaks of no path, or it stands there already
+-- the rule goes last, unless it has no octets and so speaks of no path, or it is there already
 abbrev pub with_rule : List RuleValue → RuleValue → List RuleValue
 with_rule kept new = if length new.pattern == 0 || list_any (is_same_rule new) kept then kept else kept ++ new ∷ []
 

@@ -12,18 +12,18 @@ MAX_BYTES = 512000
 abbrev pub is_line_end : ℕ → Bool
 is_line_end octet = octet == 13 || octet == 10
 
--- the text behind a UTF-8 byte order mark, if it begins with one
+-- the text after a UTF-8 byte order mark, if it begins with one
 abbrev pub without_mark : List ℕ → List ℕ
 without_mark text = if starts_with nat_eq text (239 ∷ 187 ∷ 191 ∷ []) then drop 3 text else text
 
--- the part of a file that is used: of a longer one what stands before its last line end there
+-- the part of a file that is used: of a longer one what is before its last line end there
 unfoldable pub used : List ℕ → List ℕ
 used file =
     if nat_lt MAX_BYTES (length file)
     then before_last is_line_end (without_mark (take MAX_BYTES file))
     else without_mark file
 
--- the texts of the lines; between CR and LF stands an empty one, which says nothing
+-- the texts of the lines; between CR and LF is an empty one, which says nothing
 abbrev pub line_texts_of : List ℕ → List (List ℕ)
 line_texts_of file = slice_split is_line_end (used file)
 
@@ -71,7 +71,7 @@ line_by key value =
     else (if is_word (codes "disallow") key then Some (rule (record { allows = false; pattern = value }))
     else None))
 
--- the key stands before the first `:` and the value behind it; a line without a `:` says nothing
+-- the key is before the first `:` and the value after it; a line without a `:` says nothing
 unfoldable pub line_of : List ℕ → Option LineValue
 line_of line =
     let text = uncommented line in

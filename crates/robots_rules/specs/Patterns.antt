@@ -2,7 +2,7 @@
 use Rattle.std.specs.Prelude.{ℕ, ◌-◌, Bool, ◌==◌, List, [], ◌∷◌, ◌++◌, length, take, slice_index, if◌then◌else◌}
 use Rattle.robots_rules.specs.Octets.{normal_pattern}
 
--- the last octet is `$`, which stands for the end of the text
+-- the last octet is `$`, which means the end of the text
 abbrev pub ends_text : List ℕ → Bool
 ends_text pattern = slice_index pattern (length pattern - 1) == 36
 

@@ -1,4 +1,4 @@
--- What the code's own form of a rule set stands for.
+-- What the code's own form of a rule set represents.
 use Rattle.std.specs.Prelude.{true, false, []}
 use Rattle.robots_rules.specs.Access.{RuleSetValue}
 use Rattle.robots_rules.specs.declared.rule_set.Kept.{Kept}

@@ -60,7 +60,7 @@ fn file_lines_in(alloc: Global, file: &[u8]) -> Result<Vec<FileLine<'_>>, AllocE
     Ok(lines)
 }
 
-/// What the line says, or `None` where it says nothing.
+/// What the line says, or `None` if it says nothing.
 #[tactic(auto, unfolding(crate::specs::Delays::file_line_of))]
 fn file_line_of(text: &[u8]) -> Option<FileLine<'_>>
     ensures { option_map file_line_value result ≡ file_line_of text.now }

@@ -1,7 +1,7 @@
-//! Robots rules (RFC 9309): this crate knows which paths of an origin this agent may ask for. Its one idea is that a path and a rule's pattern meet in one normal
+//! Robots rules (RFC 9309): this crate knows which paths of an origin this agent may request. Its one idea is that a path and a rule's pattern meet in one normal
 //! form, octet by octet, and that the longest pattern that matches decides. It also reads how long a file has its crawlers wait. The meaning is in `specs/`: `Lines`, `Groups`, `Octets`,
 //! `Patterns`, `Access`, `Delays`.
-//! Its tests stand in `site_tests`.
+//! Its tests are in `site_tests`.
 #![tactic(auto)]
 
 mod delays;

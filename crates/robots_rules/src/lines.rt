@@ -31,7 +31,7 @@ pub(crate) fn lines_in(alloc: Global, file: &[u8]) -> Result<Vec<Line<'_>>, Allo
     Ok(lines)
 }
 
-/// The part of the file that is used: of a longer one what stands before the last line end there.
+/// The part of the file that is used: of a longer one what is before the last line end there.
 pub(crate) fn used(file: &[u8]) -> &[u8]
     ensures { result.now ≡ used file.now }
 {
@@ -70,7 +70,7 @@ pub(crate) fn is_line_end(octet: u8) -> bool
     octet == b'\r' || octet == b'\n'
 }
 
-/// What the line says, or `None` where it says nothing.
+/// What the line says, or `None` if it says nothing.
 #[tactic(auto, unfolding(crate::specs::Lines::line_of))]
 pub(crate) fn line_of(text: &[u8]) -> Option<Line<'_>>
     ensures { option_map line_value result ≡ line_of text.now }

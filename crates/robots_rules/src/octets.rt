@@ -67,7 +67,7 @@ impl Text for NormalText<'_> {
     }
 }
 
-/// The octet that the escape at the front names, and what stands behind it.
+/// The octet that the escape at the front names, and what follows it.
 pub(crate) fn split_escape(text: &[u8]) -> Option<(u8, &[u8])>
     ensures { (must_escape : ℕ → Bool) → SplitsEscape must_escape text.now result }
 {
@@ -124,7 +124,7 @@ fn is_escaped(in_path: bool, octet: u8) -> bool
     octet >= 128 || octet == b'$' || in_path && octet == b'*'
 }
 
-/// The front of a path that is in normal form as it stands, and what follows it.
+/// The front of a path that is in normal form as it is, and what follows it.
 pub(crate) fn split_normal(path: &str) -> (&[u8], NormalText<'_>)
     ensures { normal_path path.now ≡ result.0.now ++ octets_of_text result.1 }
 {
@@ -144,7 +144,7 @@ pub(crate) fn split_normal(path: &str) -> (&[u8], NormalText<'_>)
     (&bytes[..len], rest)
 }
 
-/// Writes a path in normal form into the buffer and gives its length, or `None` where it is longer than the buffer.
+/// Writes a path in normal form into the buffer and gives its length, or `None` if it is longer than the buffer.
 pub(crate) fn write_path(buffer: &mut [u8], path: &str) -> Option<usize>
     ensures written { IfSome result (λ len. (len ≤ length buffer.new) × (take len buffer.new ≡ normal_path path.now)) }
     ensures longer { IfNone result (length buffer.old < length (normal_path path.now)) }

@@ -30,7 +30,7 @@ fn split_end(pattern: &[u8]) -> (&[u8], bool)
     }
 }
 
-/// Whether the last octet is `$`, which stands for the end of the text.
+/// Whether the last octet is `$`, which means the end of the text.
 pub(crate) fn ends_text(pattern: &[u8]) -> bool
     ensures { result ≡ ends_text pattern.now }
 {

@@ -1,4 +1,4 @@
-//! Which paths the parts of a pattern match. The one idea: the octets between two `*` are a piece, and where a piece is found leftmost, the rest of the path is
+//! Which paths the parts of a pattern match. The one idea: the octets between two `*` are a piece, and if a piece is found leftmost, the rest of the path is
 //! longest, so no other place of it needs a look.
 ghost use Rattle.std.specs.Prelude.{◌≡◌, ◌≤◌, ◌<◌, ◌++◌, true, ℕ, List, length, get_or, IfSome};
 ghost use Rattle.std.specs.List.{list_all};
@@ -36,7 +36,7 @@ impl NormalPath for NormalText<'_> {
     }
 }
 
-/// Whether the parts match the whole path: the piece before the first `*` stands at its front, and the others match the rest.
+/// Whether the parts match the whole path: the piece before the first `*` is at its front, and the others match the rest.
 fn matches(parts: &[u8], path: &[u8]) -> bool
     ensures { result ≡ is_match is_run takes parts.now path.now }
 {
@@ -47,7 +47,7 @@ fn matches(parts: &[u8], path: &[u8]) -> bool
     }
 }
 
-/// The same of the parts behind the first piece: none, or a `*` and what follows it, which matches some end of the path.
+/// The same of the parts after the first piece: none, or a `*` and what follows it, which matches some end of the path.
 fn matches_others(parts: &[u8], path: &[u8]) -> bool
     ensures { result ≡ is_match is_run takes parts.now path.now }
 {
@@ -56,12 +56,12 @@ fn matches_others(parts: &[u8], path: &[u8]) -> bool
     };
     match (str::from_utf8(others), str::from_utf8(path)) {
         (Ok(others), Ok(path)) => matches_some_end(others, path),
-        // Normal forms are ASCII, so this isn't come to.
+        // Normal forms are ASCII, so this isn't reached.
         _ => part_match::matches(parts, path),
     }
 }
 
-/// Whether the parts match some end of the path: each piece before a `*` is found leftmost behind the one before it, and the last one stands at the end.
+/// Whether the parts match some end of the path: each piece before a `*` is found leftmost after the one before it, and the last one is at the end.
 fn matches_some_end(parts: &str, path: &str) -> bool
     ensures { result ≡ some_end (is_match is_run takes parts.now) path.now }
 {
@@ -77,7 +77,7 @@ fn matches_some_end(parts: &str, path: &str) -> bool
     path.ends_with(parts)
 }
 
-/// Whether the parts match every path with this front, or none, `None` where that hangs on what follows the front.
+/// Whether the parts match every path with this front, or none, `None` if that depends on what follows the front.
 pub(crate) fn matches_front(parts: &[u8], front: &[u8]) -> Option<bool>
     ensures { IfSome result (λ matched. (rest : List ℕ) → matched ≡ is_match is_run takes parts.now (front.now ++ rest)) }
 {
@@ -91,7 +91,7 @@ pub(crate) fn matches_front(parts: &[u8], front: &[u8]) -> Option<bool>
     }
 }
 
-/// The same of the parts behind the first piece: none, or a `*` and what follows it.
+/// The same of the parts after the first piece: none, or a `*` and what follows it.
 fn matches_behind(parts: &[u8], front: &[u8]) -> Option<bool>
     ensures { IfSome result (λ matched. (rest : List ℕ) → matched ≡ is_match is_run takes parts.now (front.now ++ rest)) }
 {
@@ -113,7 +113,7 @@ fn only_runs(parts: &[u8]) -> bool
     parts.iter().all(|part| *part == b'*')
 }
 
-/// Where the first `*` stands, or how many parts there are if none does.
+/// The place of the first `*`, or how many parts there are if there is none.
 fn first_run(parts: &[u8]) -> usize
     ensures within { result ≤ length parts.now }
     ensures run { result < length parts.now → is_run (get_or parts.now result 0) ≡ true }

@@ -64,7 +64,7 @@ impl Rule {
         }
     }
 
-    /// What is allowed with this rule, where the rules before it that apply have at most so many octets, and they allow or not.
+    /// What is allowed with this rule, if the rules before it that apply have at most so many octets, and they allow or not.
     fn decides(&self, longest: usize, is_allowed: bool) -> bool
         ensures { result ≡ (self.now.allows || (is_allowed && (length self.now.pattern == longest))) }
     {
@@ -78,7 +78,7 @@ impl Rule {
         0 < self.octets() && path.is_matched(&self.parts)
     }
 
-    /// Whether the rule speaks of every path in normal form with this front, or of none, `None` where that hangs on what follows the front.
+    /// Whether the rule speaks of every path in normal form with this front, or of none, `None` if that depends on what follows the front.
     fn applies_to_front(&self, front: &[u8]) -> Option<bool>
         ensures { IfSome result (λ applies. (rest : List ℕ) → IsTrue applies ↔ Applies (front.now ++ rest) self.now) }
     {
@@ -88,7 +88,7 @@ impl Rule {
         matches_front(&self.parts, front)
     }
 
-    /// What rules are told apart by: whether it allows, and its pattern.
+    /// What distinguishes rules: whether it allows, and its pattern.
     fn key(&self, alloc: Global) -> Result<(bool, Vec<u8>), AllocError>
         ensures allows { IfOk result (λ key. key.0 ≡ self.now.allows) }
         ensures pattern { IfOk result (λ key. key.1.items ≡ self.now.pattern) }
@@ -138,7 +138,7 @@ pub(crate) fn rules_allow<T: NormalPath>(rules: &[Rule], path: T) -> bool
     is_allowed
 }
 
-/// What rules answer for every path in normal form with this front, `None` where a rule has to be compared with what follows the front.
+/// What rules answer for every path in normal form with this front, `None` if a rule has to be compared with what follows the front.
 pub(crate) fn rules_allow_front(rules: &[Rule], front: &[u8]) -> Option<bool>
     ensures value { IfSome result (λ allowed. (rest : List ℕ) → allowed ≡ rules_allow rules.now (front.now ++ rest)) }
     ensures allowed { IfSome result (λ allowed. (rest : List ℕ) → IsTrue allowed ↔ RulesAllow rules.now (front.now ++ rest)) }
@@ -155,14 +155,14 @@ pub(crate) fn rules_allow_front(rules: &[Rule], front: &[u8]) -> Option<bool>
     Some(is_allowed)
 }
 
-/// The rules in their order, without those that have no octets and those that stand before already.
+/// The rules in their order, without those that have no octets and those that came before already.
 pub(crate) fn kept_rules(alloc: Global, rules: Vec<Rule>) -> Result<Vec<Rule>, AllocError>
     ensures { IfOk result (λ kept. kept.items ≡ fold with_rule [] rules.items) }
 {
     new_rules(alloc, rules, &mut IndexSet::new(alloc))
 }
 
-/// The rules that are kept where none was seen yet. The keys seen are lent, so that only the caller lets go of them.
+/// The rules that are kept if none was seen yet. The keys seen are lent, so that only the caller drops them.
 fn new_rules(
     alloc: Global,
     rules: Vec<Rule>,

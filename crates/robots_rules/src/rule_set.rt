@@ -41,8 +41,9 @@ impl Model for RuleSet {
     ghost view = { λ set. rule_set_value_of set.kept };
 }
 
-/// What a robots file says to this agent, `wget` (RFC 9309, section 2.2). Only the first 512,000 bytes of the file are used; where it is longer and they do
-/// not end with a line end, their last line is passed over. Rules that change no answer aren't kept. No file is refused: the only error is want of memory.
+/// What a robots file says to this agent, `wget` (RFC 9309, section 2.2). Only the first 512,000 bytes of the file are used; if it is longer and they
+/// do not end with a line end, their last line is passed over. Rules that change no answer aren't kept. No file is refused: the only error is that
+/// memory ran out.
 pub fn parse(alloc: Global, file: &[u8]) -> Result<RuleSet, AllocError>
     ensures rules { IfOk result (λ set. set ≡ rules_in file.now) }
     // a rule that isn't kept changes no answer
@@ -80,7 +81,8 @@ impl RuleSet {
         }
     }
 
-    /// Whether this agent may ask for a path with its query, as `/a?b`. The longest rule that matches decides, an allow at a tie (section 2.2.2). It takes no memory.
+    /// Whether this agent may request a path with its query, such as `/a?b`. The longest rule that matches decides, an allow at a tie (section
+    /// 2.2.2). It takes no memory.
     pub fn allows(&self, path_query: &str) -> bool
         ensures value { result ≡ is_allowed self.now path_query.now }
         ensures allowed { IsTrue result ↔ IsAllowed self.now path_query.now }
@@ -112,7 +114,7 @@ impl RuleSet {
         self.is_closed() == other.is_closed() && same_rules(self.rules(), other.rules())
     }
 
-    /// An equal rule set, or want of memory.
+    /// An equal rule set, or an error if memory ran out.
     pub fn try_clone(&self, alloc: Global) -> Result<RuleSet, AllocError>
         ensures copy { IfOk result (λ copy. copy ≡ self.now) }
     {
@@ -146,8 +148,8 @@ const SHORT_PATH: usize = 256;
 /// The longest path that is brought into normal form in a buffer at all: that of an address of 8,192 bytes.
 const LONG_PATH: usize = 8_192;
 
-// A function pays for its buffer where it begins, so each buffer has a function to itself. The large one is used only where a rule has to be compared with the path
-// behind its front in normal form.
+// A function pays for its buffer where it begins, so each buffer has a function to itself. The large one is used only if a rule has to be compared with the path
+// after its front in normal form.
 #[inline(never)]
 fn short_is_allowed(rules: &[Rule], path: &str) -> bool
     ensures value { result ≡ rules_allow rules.now (normal_path path.now) }
@@ -164,7 +166,7 @@ fn long_is_allowed(rules: &[Rule], path: &str) -> bool
     is_allowed_by(rules, path, &mut [0; 3 * LONG_PATH])
 }
 
-/// Whether the rules allow a path, whose normal form is written into the buffer where it fits.
+/// Whether the rules allow a path, whose normal form is written into the buffer if it fits.
 fn is_allowed_by(rules: &[Rule], path: &str, buffer: &mut [u8]) -> bool
     ensures value { result ≡ rules_allow rules.now (normal_path path.now) }
     ensures allowed { IsTrue result ↔ RulesAllow rules.now (normal_path path.now) }

@@ -30,7 +30,7 @@ pub(crate) fn delay_in(text: &[u8]) -> Option<u64>
     Some((seconds_in(whole) * SECOND + nanos_in(fraction)).min(MAX_DELAY))
 }
 
-/// What stands before the point, and after it.
+/// What is before the point, and after it.
 fn split_point(text: &[u8]) -> (&[u8], &[u8])
     ensures whole { result.0.now ≡ before_first is_point text.now }
     ensures fraction { result.1.now ≡ after_first is_point text.now }

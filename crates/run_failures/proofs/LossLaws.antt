@@ -50,7 +50,7 @@ set_added (loss ∷ losses) kind at default within = go (is_loss_of kind loss) r
         ap (λ m. set (loss ∷ losses) m (raised (slice_index_or (loss ∷ losses) m default))) step
         ∙ ap (λ z. loss ∷ z) (rest (omega (arith, next, within)))
 
--- where none is of the kind, a new one stands at the end
+-- if none is of the kind, a new one is at the end
 pub last_added : (losses : List Loss) (kind : LossKind) (at : AddressText) → length losses ≤ position_or_len (is_loss_of kind) losses
     → losses ++ one_more None kind at ∷ [] ≡ added losses kind at
 last_added [] kind at past = refl
@@ -78,7 +78,7 @@ found_at losses kind place is = go (nat_lt (position_or_len (is_loss_of kind) lo
         (same, omega (arith, same, low))
     go false past there = cc
 
--- a loss of the list is the same whatever stands for those that aren't there
+-- a loss of the list is the same whatever is in place of those that aren't there
 same_at : (losses : List Loss) (place : ℕ) (default asked : Loss) → place < length losses → slice_index_or losses place default ≡ slice_index_or losses place asked
 same_at [] place default asked within = absurd (omega (arith, within))
 same_at (loss ∷ losses) zero default asked within = refl
@@ -98,7 +98,7 @@ placed losses kind at place default is asked =
 abbrev pub raised_to : Loss → ℕ → Loss
 raised_to loss count = record { kind = loss.kind; count = count; first = loss.first }
 
--- the same where the loss was looked at twice
+-- the same if the loss was looked at twice
 pub raised_by : (losses : List Loss) (kind : LossKind) (at : AddressText) (place : ℕ) (read written d e : Loss) (count : ℕ) → Some place ≡ position (is_loss_of kind) losses
     → read ≡ slice_index_or losses place d → written ≡ slice_index_or losses place e → count ≡ min (read.count + 1) (2 ^ 64 - 1)
     → LosesOne losses (set losses place (raised_to written count)) kind at
@@ -111,7 +111,7 @@ raised_by losses kind at place read written d e count is read_is written_is coun
     ∙ ap (λ (z : Loss). raised_to z (min ((slice_index_or losses place e).count + 1) (2 ^ 64 - 1))) written_is in
     ap (λ z. lost (set losses place z) asked) made ∙ placed losses kind at place e is asked
 
--- what is found once a loss stands at the end, where none was of its kind
+-- what is found once a loss is at the end, if none was of its kind
 pub unplaced : (losses : List Loss) (kind : LossKind) (at : AddressText) → None ≡ position (is_loss_of kind) losses
     → LosesOne losses (losses ++ one_more None kind at ∷ []) kind at
 unplaced losses kind at is asked = go (nat_lt (position_or_len (is_loss_of kind) losses) (length losses)) refl is

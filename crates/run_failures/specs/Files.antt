@@ -1,4 +1,4 @@
--- Files that couldn't be written, all that failed in a run, and the lines that tell of it.
+-- Files that couldn't be written, all that failed in a run, and the lines that report it.
 use Rattle.std.specs.Prelude.{◌≡◌, ℕ, ℤ, List, ◌++◌, Option, Some, None, ⊤, codes, string_bytes}
 use Rattle.std.specs.IoError.{error_kind, raw_os_error}
 use Rattle.std.specs.declared.io.Error.{Error}
@@ -8,7 +8,7 @@ use Rattle.run_failures.specs.declared.file_fault.FileFault.{FileFault}
 use Rattle.run_failures.specs.declared.file_fault.FileFault.TheVariants.{Named, Memory}
 use Rattle.run_failures.specs.declared.losses.Loss.{Loss}
 
--- what is said of an error of this kind, where it isn't the system's
+-- what is said of an error of this kind, if it isn't the system's
 abbrev pub words_of_kind : ErrorKind → Option (List ℕ)
 words_of_kind kind.AlreadyExists = Some (codes "a link, a folder or a device stands there")
 words_of_kind kind.NotADirectory = Some (codes "a link or a file stands where a folder is to be")
@@ -20,7 +20,7 @@ abbrev pub own_words : Option ℤ → ErrorKind → Option (List ℕ)
 own_words (Some code) kind = None
 own_words None kind = words_of_kind kind
 
--- the reason is these words, where there are such
+-- the reason is these words, if there are such
 abbrev pub IsReason : Option (List ℕ) → List ℕ → Type 0
 IsReason None reason = ⊤
 IsReason (Some words) reason = reason ≡ words

@@ -1,4 +1,4 @@
--- Lost connections, and the lines that tell of them.
+-- Lost connections, and the lines that report them.
 use Rattle.std.specs.Prelude.{◌≡◌, ℕ, ◌+◌, ◌^◌, ◌-◌, ◌==◌, Bool, List, [], ◌++◌, Option, Some, None, min, codes, find, if◌then◌else◌}
 use Rattle.std.specs.Fmt.{decimal}
 use Rattle.std.specs.List.{flat_map}
@@ -24,7 +24,7 @@ number_of kind.Other = 8
 abbrev pub is_kind : LossKind → LossKind → Bool
 is_kind kind asked = number_of kind == number_of asked
 
--- what stands behind the number of connections
+-- what follows the number of connections
 abbrev pub words_of : LossKind → List ℕ
 words_of kind.Refused = codes "refused"
 words_of kind.Unknown = codes "to an unknown host"
@@ -61,11 +61,11 @@ LosesOne old new kind at = (asked : LossKind) → lost new asked ≡ (if is_kind
 abbrev pub noun_of : ℕ → List ℕ
 noun_of count = if count == 1 then codes "connection" else codes "connections"
 
--- the line of what was lost of a kind, as `3 connections refused, first http://h/x`
+-- the line of what was lost of a kind, such as `3 connections refused, first http://h/x`
 abbrev pub loss_line_of : LossKind → Loss → List ℕ
 loss_line_of kind loss = decimal loss.count ++ codes " " ++ noun_of loss.count ++ codes " " ++ words_of kind ++ codes ", first " ++ loss.first ++ codes "\n"
 
--- the line of a kind, where any was lost
+-- the line of a kind, if any was lost
 abbrev pub loss_line_by : LossKind → Option Loss → List ℕ
 loss_line_by kind None = []
 loss_line_by kind (Some loss) = loss_line_of kind loss

@@ -1,4 +1,4 @@
--- Servers that sent bytes that nobody had requested, and the lines that tell of them.
+-- Servers that sent bytes that nobody had requested, and the lines that report them.
 use Rattle.std.specs.Prelude.{ℕ, List, [], ◌∷◌, ◌++◌, bytes_eq, codes, if◌then◌else◌}
 use Rattle.std.specs.List.{list_any}
 use Rattle.address.specs.Address.{OriginText}

@@ -1,4 +1,4 @@
-//! All that failed in a run, as far as a person is told of it.
+//! All that failed in a run, as far as it is reported to a person.
 ghost use Rattle.std.specs.Prelude.{◌≡◌, ◌++◌, [], ◌∷◌, IfOk, OnOk, OnErr, string_bytes};
 ghost use Rattle.std.specs.List.{flat_map};
 ghost use Rattle.run_failures.specs.Files.{fault_line};
@@ -50,7 +50,7 @@ impl Failures {
         }
     }
 
-    /// A file couldn't be written. The error is want of memory; then nothing is kept of it.
+    /// A file couldn't be written. Fails only if memory runs out; then nothing is kept of it.
     pub fn fail(&mut self, file: FileFault) -> Result<(), AllocError>
         ensures ok { OnOk result (self.new.files ≡ self.old.files ++ file ∷ []) }
         ensures err { OnErr result (self.new.files ≡ self.old.files) }
@@ -60,7 +60,7 @@ impl Failures {
         Ok(())
     }
 
-    /// A connection was lost, which was to ask for this address. The error is want of memory; then it isn't counted.
+    /// A connection was lost, which was to request this address. Fails only if memory runs out; then it isn't counted.
     pub fn lose(&mut self, kind: LossKind, at: Address) -> Result<(), AllocError>
         ensures ok { OnOk result (LosesOne self.old.losses self.new.losses kind at) }
         ensures err { OnErr result (self.new.losses ≡ self.old.losses) }
@@ -69,8 +69,8 @@ impl Failures {
         self.losses.add(kind, at)
     }
 
-    /// The lines that tell a person: one for each file, and one for each kind of lost connection with its count and first address.
-    /// It is empty where nothing failed.
+    /// The lines for a person: one for each file, and one for each kind of lost connection with its count and first address. It is
+    /// empty if nothing failed.
     pub fn text(&self) -> Result<String, AllocError>
         ensures { IfOk result (λ text. string_bytes text ≡ flat_map fault_line self.now.files ++ loss_lines_of self.now.losses) }
     {

@@ -54,7 +54,7 @@ fn reason_of(alloc: Global, error: &Error) -> Result<String, AllocError>
     }
 }
 
-// The fault of this file with this error. The error is want of memory.
+// The fault of this file with this error. Fails only if memory runs out.
 fn named(alloc: Global, name: &str, error: &Error) -> Result<FileFault, AllocError>
     ensures { IfOk result (TellsOf name.now error.now) }
 {
@@ -65,7 +65,7 @@ fn named(alloc: Global, name: &str, error: &Error) -> Result<FileFault, AllocErr
 }
 
 impl FileFault {
-    /// That of the file of this name, with this error. Where that is want of memory none is taken.
+    /// That of the file of this name, with this error. If that is out of memory, no memory is taken.
     pub fn new(alloc: Global, name: &str, error: &Error) -> FileFault
         ensures tells { TellsOf name.now error.now result }
     {

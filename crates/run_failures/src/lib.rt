@@ -1,11 +1,11 @@
 //! Why something failed in a run: connections that were lost, by kind, and files that couldn't be written. This crate knows what
-//! is kept of them and the lines that tell a person; it looks at no network and no disk. What the lines are stands in `specs/`.
+//! is kept of them and the lines for a person; it looks at no network and no disk. What the lines are is in `specs/`.
 //!
 //! ```
 //! failures.lose(LossKind::Refused, address)?; // 1 connection refused, first http://h/x
 //! ```
 //!
-//! Its tests stand in `live_tests` and `retrieval_tests`, through what stands above it.
+//! Its tests are in `live_tests` and `retrieval_tests`, through the crates above it.
 #![tactic(auto)]
 
 mod failures;

@@ -19,13 +19,13 @@ pub enum LossKind {
     Descriptor,
     /// This machine had no port or no address for it.
     Port,
-    /// It broke behind its making.
+    /// It broke after it was made.
     Broken,
     /// Anything else.
     Other,
 }
 
-/// Each kind, in the order in which a person is told of them.
+/// Each kind, in the order in which they are reported to a person.
 pub const KINDS: [LossKind; 9] = [
     LossKind::Refused,
     LossKind::Unknown,
@@ -39,7 +39,7 @@ pub const KINDS: [LossKind; 9] = [
 ];
 
 impl LossKind {
-    // The words behind `connection` or `connections`.
+    // The words after `connection` or `connections`.
     pub(crate) fn words(self) -> &'static str
         ensures { result.now ≡ words_of self }
     {

@@ -15,7 +15,7 @@ pub struct Loss {
     pub kind: LossKind,
     /// How many connections; at the largest number it stays.
     pub count: u64,
-    /// What the first of them was to ask for.
+    /// What the first of them was to request.
     pub first: Address,
 }
 
@@ -36,7 +36,7 @@ impl Model for Losses {
     ghost view = { λ losses. losses.each.items };
 }
 
-// Where the loss of this kind stands.
+// The place of the loss of this kind.
 fn place_of(each: &[Loss], kind: LossKind) -> Option<usize>
     ensures { result ≡ position (is_loss_of kind) each.now }
 {
@@ -75,7 +75,7 @@ impl Losses {
         }
     }
 
-    /// One more connection of this kind was lost, at this address. The error is want of memory; then it isn't counted.
+    /// One more connection of this kind was lost, at this address. Fails only if memory runs out; then it isn't counted.
     pub fn add(&mut self, kind: LossKind, at: Address) -> Result<(), AllocError>
         ensures ok { OnOk result (LosesOne self.old self.new kind at) }
         ensures err { OnErr result (self.new ≡ self.old) }
@@ -101,7 +101,7 @@ impl Losses {
         self.each.iter().find(|loss| loss.kind.is(kind))
     }
 
-    // Adds the line of a kind, where any was lost.
+    // Adds the line of a kind, if any was lost.
     fn push_kind(&self, text: &mut String, kind: LossKind) -> Result<(), AllocError>
         ensures ok { OnOk result (string_bytes text.new ≡ string_bytes text.old ++ line_for self.now kind) }
     {

@@ -35,7 +35,7 @@ passed_over : (page : AddressText) (name : List ℕ) (kept : List AddressText) (
 passed_over page name kept names u differs =
     cond-false (bytes_eq page u) (Some name) (name_among kept names u) (false_from_ne_true (bytes_eq page u) (λ e. differs ((bytes_eq-Decides page u).0 e)))
 
--- a page that stands before another is another
+-- a page that is before another is another
 before_differs : (page u : AddressText) → IsBefore page u → page ≢ u
 before_differs page u before same = not_before_itself u (subst (λ (v : AddressText). IsBefore v u) same before)
 
@@ -48,7 +48,7 @@ name_at (page ∷ kept) (name ∷ names) (suc i) u up long below is =
     passed_over page name kept names u (before_differs page u (subst (λ (v : AddressText). IsBefore page v) is (up 0 (suc i) [] (omega arith) (omega arith))))
     ∙ name_at kept names i u (λ a b d less within. up (suc a) (suc b) d (omega arith) (omega arith)) (omega arith) (omega arith) is
 
--- a page that stands nowhere has no name
+-- a page that is at no place has no name
 pub no_name : (kept : List AddressText) (names : List (List ℕ)) (u : AddressText) → ((i : ℕ) → i < length kept → get_or kept i [] ≢ u) → name_among kept names u ≡ None
 no_name [] names u none = refl
 no_name (page ∷ kept) [] u none = refl

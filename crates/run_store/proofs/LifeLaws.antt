@@ -25,7 +25,7 @@ module _ {D : Type 0} (opened : D → List ℕ → Type 0) (seen : D → List �
     (counts_now : (disk : D) (t : ℕ) (n : List ℕ) (c : Option (List ℕ)) → t ≤ moment disk → left disk n c → since disk t n c)
     (only_now : (disk : D) (n : List ℕ) (c : Option (List ℕ)) → since disk (moment disk) n c → left disk n c)
     (name : List ℕ) where
-  -- what stands there, and what a crash leaves
+  -- what is there, and what a crash leaves
   record Holds (runs : List Run) (disk : D) : Type 0 where
     stands : (c : Option (List ℕ)) → seen disk name c → MayHold runs (read_of c)
     leaves : (c : Option (List ℕ)) → left disk name c → MayHold runs (read_of c)
@@ -46,7 +46,7 @@ module _ {D : Type 0} (opened : D → List ℕ → Type 0) (seen : D → List �
       (kept_ran opened seen named kept left moment since leaves_named counts_now only_now name (read_of l.1) before behind l.2 l.3 l.4 l.7.same_name (l.7.stands l.1 l.6) l.8 l.9 c
       s))
 
-  -- Whatever runs there were and wherever each stopped, what stands there is read as what they may hold.
+  -- Whatever runs there were and wherever each stopped, what is there is read as what they may hold.
   pub lived_holds : (runs : List Run) (disk : D) → Lived opened seen named kept left moment since name runs disk → (c : Option (List ℕ)) → seen disk name c → MayHold runs (read_of c)
   lived_holds runs disk l c s = (holds runs disk l).stands c s
 

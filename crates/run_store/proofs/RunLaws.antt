@@ -99,7 +99,7 @@ module _ {D : Type 0} (opened : D → List ℕ → Type 0) (seen : D → List �
     (counts_now : (disk : D) (t : ℕ) (n : List ℕ) (c : Option (List ℕ)) → t ≤ moment disk → left disk n c → since disk t n c)
     (only_now : (disk : D) (n : List ℕ) (c : Option (List ℕ)) → since disk (moment disk) n c → left disk n c)
     (name : List ℕ) where
-  -- a crash leaves these entries and a front of the others; if it is open they stand there
+  -- a crash leaves these entries and a front of the others; if it is open they are there
   record Stands (d a : Entries) (index : Index D) : Type 0 where
     same_name : string_bytes index.name ≡ name
     fronts : (c : Option (List ℕ)) → left index.disk name c → LeavesFront d a c

@@ -1,4 +1,4 @@
--- An index of which only that it stands for entries is known.
+-- An index of which it is known only that it represents entries.
 use Rattle.std.proofs.Common.{◌≡◌, ◌⊎◌, inl, inr, Bool, true, false, ℕ, List, Option, Result, Ok, Err, OnOk, OnErr, refl, sym, ◌∙◌, ap, subst}
 use Rattle.std.proofs.Math.Logic.{∥∥₁_map}
 use Rattle.run_store.specs.declared.index.Index.{Index}
@@ -24,7 +24,7 @@ module _ {D : Type 0} (tells : Type 0) (opened : D → List ℕ → Type 0) (see
   stands_err old new stands (inl same) = subst (λ (i : Index D). StandsForEntries tells opened seen named kept i) (sym same) stands
   stands_err old new stands (inr shut) = λ told is. absurd (not_both (sym is ∙ shut))
 
-  -- behind a call, whatever it answered
+  -- after a call, whatever it answered
   pub stands_call : {T E : Type 0} (r : Result T E) (old new : Index D) (to_done to_added : List (List ℕ) → List (List ℕ) → List (List ℕ)) → StandsForEntries tells opened seen named kept old → (old.is_open ≡ false → new ≡ old)
       → ((done added : List (List ℕ)) → IsIndex opened seen named kept old done added → OnOk r (IsIndex opened seen named kept new (to_done done added) (to_added done added)))
       → OnErr r ((new ≡ old) ⊎ (new.is_open ≡ false)) → StandsForEntries tells opened seen named kept new

@@ -14,7 +14,7 @@ pub data Deed : Type 0 where
   loses : List ℕ → Deed
   -- a part got this name, or that failed
   names : List ℕ → List ℕ → Deed
-  -- what stands under a name was removed, or that failed
+  -- what is under a name was removed, or that failed
   removes : List ℕ → Deed
 
 -- After these deeds, the last of which comes first, a part has this whole body: it was finished with these bytes, and nothing was done with it since.

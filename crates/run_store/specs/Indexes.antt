@@ -15,7 +15,7 @@ pub record IsIndex {D : Type 0} (opened : D → List ℕ → Type 0) (seen : D �
   pub are_done : AreEntries done
   pub are_added : AreEntries added
 
--- a crash leaves bytes that are read as these entries and a front of those behind
+-- a crash leaves bytes that are read as these entries and a front of those after them
 abbrev pub LeavesFront : List (List ℕ) → List (List ℕ) → Option (List ℕ) → Type 0
 LeavesFront done added None = ⊥
 LeavesFront done added (Some bytes) = IsFrontOf done added (recovered bytes)

@@ -13,7 +13,7 @@ pub data Run : Type 0 where
   -- that was stopped at some moment since the first of these calls had returned
   calling : List Call → List Call → Run
 
--- the entries that are read of what stands there; if nothing does, none
+-- the entries that are read of what is there; if nothing does, none
 abbrev pub read_of : Option (List ℕ) → List (List ℕ)
 read_of None = []
 read_of (Some bytes) = recovered bytes
@@ -34,18 +34,18 @@ module _ {D : Type 0} (opened : D → List ℕ → Type 0) (seen : D → List �
   abbrev pub Passing : D → D → Type 0
   Passing old new = (found : Option (List ℕ)) → seen old name found → LeavesOnly moment since name old new (LeavesRead (left old name) found)
 
-  -- the index that opening makes of what stands there
+  -- the index that opening makes of what is there
   pub record IsOpened (old : D) (new : Index D) : Type 0 where
     pub same_name : string_bytes new.name ≡ name
     pub stands : (found : Option (List ℕ)) → seen old name found → IsIndex opened seen named kept new (read_of found) []
     pub passes : Passing old new.disk
 
-  -- the disk after a crash at some moment since t: what stands there, and what a crash may leave of that, is what it may have left
+  -- the disk after a crash at some moment since t: what is there, and what a crash may leave of that, is what it may have left
   pub record IsLeft (old : D) (t : ℕ) (new : D) : Type 0 where
     pub stands : (c : Option (List ℕ)) → seen new name c → since old t name c
     pub leaves : (c : Option (List ℕ)) → left new name c → since old t name c
 
-  -- nothing stands there, and a crash leaves nothing
+  -- nothing is there, and a crash leaves nothing
   pub record IsNew (disk : D) : Type 0 where
     pub stands : (c : Option (List ℕ)) → seen disk name c → c ≡ None
     pub leaves : (c : Option (List ℕ)) → left disk name c → c ≡ None

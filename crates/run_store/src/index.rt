@@ -12,7 +12,7 @@ use disk_folder::{Disk, DiskError};
 use entry_lines::line_of;
 use std::alloc::Global;
 
-/// An index of a run, to which entries are added. Behind a call that failed nothing more is added.
+/// An index of a run, to which entries are added. After a call that failed nothing more is added.
 #[derive(Drop)]
 pub struct Index<D: Disk> {
     disk: D,
@@ -36,7 +36,7 @@ impl<D: Disk> Index<D> {
 
     /// Opens the index of this name, or makes one if there is none, and gives the lines that it has. A crash in an earlier run may
     /// have left it; the lines that are whole are taken, and no others. They are written under the other name first, in which nothing
-    /// else may stand. An error hands the disk back.
+    /// else may be. An error hands the disk back.
     pub fn open(
         mut disk: D,
         alloc: Global,
@@ -70,7 +70,7 @@ impl<D: Disk> Index<D> {
         disk
     }
 
-    /// Adds an entry, in one write. Behind an error nothing is added.
+    /// Adds an entry, in one write. After an error nothing is added.
     pub fn append(&mut self, alloc: Global, entry: &[u8]) -> Result<(), DiskError>
         requires { ArePlain entry.now }
         ensures appended { (done added : List (List ℕ)) → IsIndex D.opened D.seen D.named D.kept self.old done added
@@ -98,7 +98,7 @@ impl<D: Disk> Index<D> {
         }
     }
 
-    /// Brings all entries onto the disk. Behind an error nothing is added.
+    /// Brings all entries onto the disk. After an error nothing is added.
     pub fn sync(&mut self) -> Result<(), DiskError>
         ensures synced { (done added : List (List ℕ)) → IsIndex D.opened D.seen D.named D.kept self.old done added
             → OnOk result (IsIndex D.opened D.seen D.named D.kept self.new (done ++ added) []) }

@@ -7,7 +7,7 @@ ghost use Rattle.run_store.specs.Recoveries.{IsWhole};
 
 use disk_folder::{Disk, DiskError};
 
-/// Begins a body in a part of this name, where nothing stands.
+/// Begins a body in a part of this name, where nothing is.
 pub fn begin<D: Disk>(disk: &mut D, part: &str) -> Result<(), DiskError>
     ensures begun { D.tells → OnOk result (IsBegun D.opened D.seen disk.new part.now []) }
     ensures others { (n : List ℕ) (bytes : List ℕ) → n ≢ part.now → IsWhole D.seen D.kept disk.old n bytes → IsWhole D.seen D.kept disk.new n bytes }
@@ -43,24 +43,24 @@ pub fn finish<D: Disk>(disk: &mut D) -> Result<(), DiskError>
     disk.sync()
 }
 
-/// Gives a body that is whole its name, in place of what stands there.
+/// Gives a body that is whole its name, in place of what is there.
 pub fn name<D: Disk>(disk: &mut D, part: &str, name: &str) -> Result<(), DiskError>
     requires { part.now ≢ name.now }
     ensures named { (bytes : List ℕ) → IsWhole D.seen D.kept disk.old part.now bytes → OnOk result (IsWhole D.seen D.kept disk.new name.now bytes) }
     ensures others { (n whole : List ℕ) → n ≢ part.now → n ≢ name.now → IsWhole D.seen D.kept disk.old n whole → IsWhole D.seen D.kept disk.new n whole }
-    // At any moment a crash leaves what stood there before, or the whole body.
+    // At any moment a crash leaves what was there before, or the whole body.
     ensures any_moment { (bytes : List ℕ) → IsWhole D.seen D.kept disk.old part.now bytes
         → LeavesOnly D.moment D.since name.now disk.old disk.new (λ c. D.left disk.old name.now c ⊎ (c ≡ Some bytes)) }
     ensures others_any_moment { (n : List ℕ) → n ≢ part.now → n ≢ name.now → LeavesOnly D.moment D.since n disk.old disk.new (D.left disk.old n) }
     ensures deed { IsDeed D.opened D.seen D.kept D.left D.moment D.since (names part.now name.now) disk.old disk.new }
     // Whatever bodies were written, named and removed before, in whatever order: if each name was given to a part that had a whole
-    // body, a crash at any moment leaves under a name only what stood there before all of it, the whole body, or nothing.
+    // body, a crash at any moment leaves under a name only what was there before all of it, the whole body, or nothing.
     ensures lives { (start : D) (deeds : List Deed) → AreDeeds D.opened D.seen D.kept D.left D.moment D.since start deeds disk.old → LeavesWhole D.opened D.seen D.kept D.left D.moment D.since start (names part.now name.now ∷ deeds) disk.new }
 {
     disk.rename(part, name)
 }
 
-/// Removes what stands under a name.
+/// Removes what is under a name.
 pub fn remove<D: Disk>(disk: &mut D, name: &str) -> Result<(), DiskError>
     ensures gone { D.tells → OnOk result (D.seen disk.new name.now None) }
     ensures deed { IsDeed D.opened D.seen D.kept D.left D.moment D.since (removes name.now) disk.old disk.new }

@@ -8,8 +8,8 @@ use disk_folder::{Disk, DiskError};
 use entry_lines::whole_len;
 use std::alloc::Global;
 
-/// Reads the index of this name, if there is one, and makes it ready: the lines that are whole, and no others, stand there, on the
-/// disk, and it is open. Gives these lines. They are written under the other name first, in which nothing else may stand.
+/// Reads the index of this name, if there is one, and makes it ready: the lines that are whole, and no others, are there, on the
+/// disk, and it is open. Gives these lines. They are written under the other name first, in which nothing else may be.
 pub fn recover<D: Disk>(
     disk: &mut D,
     alloc: Global,
@@ -44,14 +44,14 @@ fn write_whole<D: Disk>(disk: &mut D, spare: &str, bytes: &[u8]) -> Result<(), D
     ensures any_moment { D.tells → (n : List ℕ) → n ≢ spare.now → LeavesOnly D.moment D.since n disk.old disk.new (D.left disk.old n) }
     ensures others { D.tells → (n : List ℕ) (c : Option (List ℕ)) → n ≢ spare.now → D.left disk.new n c → D.left disk.old n c }
 {
-    // Where nothing stands there, this fails.
+    // If nothing is there, this fails.
     let _ = disk.remove(spare);
     disk.make(spare)?;
     disk.add(bytes)?;
     disk.sync()
 }
 
-// Gives a file that is whole another name, in place of what stands there, and opens it.
+// Gives a file that is whole another name, in place of what is there, and opens it.
 fn put_in_place<D: Disk>(disk: &mut D, spare: &str, name: &str) -> Result<(), DiskError>
     requires { spare.now ≢ name.now }
     ensures placed { (bytes : List ℕ) → IsWhole D.seen D.kept disk.old spare.now bytes → OnOk result (D.opened disk.new name.now × IsWhole D.seen D.kept disk.new name.now bytes × D.named disk.new name.now) }

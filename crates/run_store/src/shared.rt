@@ -8,7 +8,7 @@ use crate::Index;
 use disk_folder::{Disk, DiskError};
 use std::alloc::Global;
 
-/// An index that stands for entries, as long as entries are added: what is known of it whenever a lock is taken.
+/// An index that represents entries, as long as entries are added: what is known of it whenever a lock is taken.
 #[derive(Drop)]
 pub struct SharedIndex<D: Disk> {
     index: Index<D>,
@@ -24,7 +24,7 @@ impl<D: Disk> SharedIndex<D> {
         SharedIndex { index }
     }
 
-    /// Adds an entry behind those that others added, in one write.
+    /// Adds an entry after those that others added, in one write.
     pub fn append(&mut self, alloc: Global, entry: &[u8]) -> Result<(), DiskError>
         requires { ArePlain entry.now }
         ensures appended { D.tells → self.old.index.is_open ≡ true → ∥ ((done : List (List ℕ)) × (added : List (List ℕ)) × IsIndex D.opened D.seen D.named D.kept self.old.index done added

@@ -14,7 +14,7 @@ numbered Line number = input.Line number
 numbered Address number = input.Address number
 numbered Memory number = input.Memory
 
--- what is wrong with the line of a refused address: want of memory is Memory
+-- what is wrong with the line of a refused address: out of memory is Memory
 abbrev pub wrong_of : AddressFault → InputLineFault
 wrong_of refusal.Memory = Memory
 wrong_of _ = Address

@@ -1,4 +1,4 @@
-//! Fields of a line, which stand between single spaces.
+//! Fields of a line, which are between single spaces.
 ghost use Rattle.std.specs.Prelude.{◌≡◌, [], ◌∷◌, MatchOption};
 ghost use Rattle.site_inputs.specs.Fields.{fields};
 

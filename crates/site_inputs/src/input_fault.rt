@@ -1,16 +1,16 @@
-//! Faults of an input that tells of a site: the first bad line.
+//! Faults of an input that describes a site: the first bad line.
 use address::AddressFault;
 use std::alloc::{AllocError, AllocFailed};
 use std::fmt;
 
-/// Why a text tells of no site. Lines are counted from 1; the first bad line is named.
+/// Why a text describes no site. Lines are counted from 1; the first bad line is named.
 #[derive(Clone, Copy, Debug, PartialEq, Eq)]
 pub enum InputFault {
     /// This line isn't UTF-8, has no form, is out of place, or states something once more.
     Line(usize),
     /// An address of this line is refused.
     Address(usize),
-    /// Memory ran out: over a line that has its form and its place, below good lines, or behind
+    /// Memory ran out: over a line that has its form and its place, below good lines, or after
     /// the last line.
     Memory,
 }

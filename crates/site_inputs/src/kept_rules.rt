@@ -28,7 +28,7 @@ impl KeptRules {
         KeptRules { alloc, set }
     }
 
-    /// An equal rule set, or an error where memory ran out.
+    /// An equal rule set, or an error if memory ran out.
     pub fn rule_set(&self) -> Result<RuleSet, AllocError>
         ensures { IfOk result (λ copy. copy ≡ self.now) }
     {

@@ -1,6 +1,6 @@
-//! What inputs that tell of a site, maps and records, have in common: the fault of a line with its number, the fields of a line,
+//! What inputs that describe a site, maps and records, have in common: the fault of a line with its number, the fields of a line,
 //! the addresses and origins that it names, and rule sets that are kept. The meaning is written in `specs/`.
-//! Its tests stand in `site_tests`.
+//! Its tests are in `site_tests`.
 #![tactic(auto)]
 
 mod field;

@@ -64,7 +64,7 @@ not_true : (x : Bool) → not x ≡ true → x ≡ false
 not_true true e = absurd (cc)
 not_true false e = refl
 
--- in a URL, or there behind commas
+-- in a URL, or in one after commas
 abbrev pub inner : Bool → Place
 inner true = Commas
 inner false = Url
@@ -105,7 +105,7 @@ written_reads (b ∷ bs) raw commas found w =
     before_first : (b : ℕ) → is_white b ≡ false → (b == 44) ≡ false → before b ≡ First
     before_first b e f = rw (e, f) refl
 
--- commas behind a URL
+-- commas after a URL
 abbrev pub are_commas : List ℕ → Bool
 are_commas xs = list_all (λ c. c == 44) xs
 
@@ -144,12 +144,12 @@ Good change Commas f out = (fed nothing_read out ≡ front Before [] [] (map (ch
 Good change Descriptors f out = (f.raw ≡ []) × (f.commas ≡ [])
 Good change Parentheses f out = (f.raw ≡ []) × (f.commas ≡ [])
 
--- what was written is read as the front, with its URLs changed, but for what is held back
+-- what was written is read as the front, with its URLs changed, except what is held back
 pub record Keeps (change : Change) (f : Front) (out : List ℕ) : Type 0 where
   pub behind : fed nothing_read (out ++ held f) ≡ mapped change f
   pub good : Good change f.place f out
 
--- the byte behind all that is written and held back
+-- the byte after all that is written and held back
 read_on : (change : Change) (f : Front) (out : List ℕ) (b : ℕ) (t : Turn) → turn f.place b ≡ t → Keeps change f out
     → fed nothing_read (out ++ (held f ++ b ∷ [])) ≡ turned (mapped change f) b t
 read_on change f out b t e k =
@@ -235,7 +235,7 @@ comma_keeps change f out b e m is k = record {
 
 -- ---- the end of a URL
 
--- the commas behind a URL that was written, and what they leave
+-- the commas after a URL that was written, and what they leave
 after_commas : (text : List ℕ) (found : List (List ℕ)) (p : Place) (cs : List ℕ) → MoveIn p → (p ≡ Url → cs ≡ []) → (p ≡ Commas → cs ≢ []) → are_commas cs ≡ true → fed (front Url text [] found) cs ≡ front p text cs found
 after_commas text found Before cs m u c h = absurd m
 after_commas text found Url cs m u c h = rw (u refl) refl
@@ -272,7 +272,7 @@ some_commas change p f out g e = go (subst (λ (q : Place). Good change q f out)
   go : Good change Commas f out → f.commas ≢ []
   go g = g.2
 
--- a text in the place of the URL, and the commas behind it
+-- a text in the place of the URL, and the commas after it
 anew_reads : (change : Change) (f : Front) (out text rest : List ℕ) → MoveIn f.place → Keeps change f out → CanBeUrl text
     → fed nothing_read (out ++ (text ++ (f.commas ++ rest))) ≡ fed (front f.place text f.commas (map (changed change) f.found)) rest
 anew_reads change f out text rest m k w =

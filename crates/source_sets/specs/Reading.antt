@@ -1,4 +1,4 @@
--- What the code's parts stand for.
+-- What the code's parts represent.
 use Rattle.source_sets.specs.Sets.{Front}
 use Rattle.source_sets.specs.Rewriting.{Rewrite}
 use Rattle.source_sets.specs.declared.machine.Machine.{Machine}

@@ -1,4 +1,4 @@
--- A set with other URLs: what stands outside of the URLs that change is as before, byte by byte.
+-- A set with other URLs: what is outside of the URLs that change is as before, byte by byte.
 use Rattle.std.specs.Prelude.{◌≡◌, ℕ, Bool, true, false, not, List, [], ◌∷◌, ◌++◌, Option, Some, None, ◌==◌}
 use Rattle.std.specs.List.{list_all, flat_map}
 use Rattle.std.specs.Str.Lossy.{utf8_lossy}
@@ -44,7 +44,7 @@ written_or raw (Some other) = other
 abbrev pub anew : Change → List ℕ → List ℕ
 anew change raw = written_or raw (change (reference raw))
 
--- the front of a set, and what is written of it; a URL isn't written yet, nor are commas behind it
+-- the front of a set, and what is written of it; a URL isn't written yet, nor are commas after it
 pub record Rewrite : Type 0 where
   pub front : Front
   pub out : List ℕ
@@ -65,7 +65,7 @@ rewrite_step change w b = record { front = step w.front b; out = out_of change w
 abbrev pub nothing_written : Rewrite
 nothing_written = record { front = nothing_read; out = [] }
 
--- with these bytes behind it
+-- with these bytes after it
 abbrev pub rewrite_fed : Change → Rewrite → List ℕ → Rewrite
 rewrite_fed change w [] = w
 rewrite_fed change w (b ∷ bs) = rewrite_fed change (rewrite_step change w b) bs
@@ -103,7 +103,7 @@ abbrev pub references_of : Piece → List (List ℕ)
 references_of (Bytes bytes) = []
 references_of (Value raw) = reference raw ∷ []
 
--- its bytes where URLs change, and nothing else does
+-- its bytes, with URLs changed and nothing else
 abbrev pub bytes_anew : Change → Piece → List ℕ
 bytes_anew change (Bytes bytes) = bytes
 bytes_anew change (Value raw) = anew change raw

@@ -20,7 +20,7 @@ before b = if is_white b || b == 44 then At Before else First
 abbrev pub url : ℕ → Turn
 url b = if is_white b then End Descriptors else if b == 44 then Comma else With
 
--- behind commas: white ends the URL before them, and no descriptor follows; else they are the URL's own
+-- after commas: white ends the URL before them, and no descriptor follows; else they are the URL's own
 abbrev pub commas : ℕ → Turn
 commas b = if is_white b then End Before else if b == 44 then Comma else With
 
@@ -41,7 +41,7 @@ turn Parentheses b = parentheses b
 
 -- ---- the URLs
 
--- the front of a set: where it ends, the URL that it ends in, the commas behind that, and the URLs before it
+-- the front of a set: where it ends, the URL that it ends in, the commas after that, and the URLs before it
 pub record Front : Type 0 where
   pub place : Place
   pub raw : List ℕ
@@ -72,7 +72,7 @@ step s b = turned s b (turn s.place b)
 abbrev pub nothing_read : Front
 nothing_read = front Before [] [] []
 
--- a front with these bytes behind it
+-- a front with these bytes after it
 abbrev pub fed : Front → List ℕ → Front
 fed s [] = s
 fed s (b ∷ bs) = fed (step s b) bs

@@ -7,7 +7,7 @@ use crate::found::Found;
 use crate::place::{Place, Turn, turn_at};
 use std::alloc::{AllocError, Global};
 
-/// How far a set was read: the place, the URL that is being read and the commas behind it, and what was found.
+/// How far a set was read: the place, the URL that is being read and the commas after it, and what was found.
 #[derive(Drop)]
 pub(crate) struct Machine {
     alloc: Global,
@@ -121,7 +121,7 @@ impl Machine {
     }
 }
 
-/// The URLs of a source set, in its order. The error is want of memory.
+/// The URLs of a source set, in its order. Fails only if memory runs out.
 #[tactic(auto, unfolding(crate::specs::Sets::references))]
 pub fn scan(alloc: Global, set: &[u8]) -> Result<Vec<Found>, AllocError>
     ensures { IfOk result (λ found. found.items ≡ references set.now) }

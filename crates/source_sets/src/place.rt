@@ -2,14 +2,14 @@
 ghost use Rattle.std.specs.Prelude.{◌≡◌};
 ghost use Rattle.source_sets.specs.Sets.{is_white, turn};
 
-/// Where in the set the next byte stands.
+/// Where in the set the next byte is.
 #[derive(Clone, Copy)]
 pub(crate) enum Place {
     /// Before a candidate: white and commas.
     Before,
     /// In a URL.
     Url,
-    /// In a URL, behind commas that may end it.
+    /// In a URL, after commas that may end it.
     Commas,
     /// In the descriptors of a candidate.
     Descriptors,

@@ -54,7 +54,7 @@ impl Rewriter {
         }
     }
 
-    // Writes a URL anew, and the commas behind it.
+    // Writes a URL anew, and the commas after it.
     fn write_url<C: Change>(&mut self, change: &C) -> Result<(), AllocError>
         ensures out { OnOk result (self.new.out.items ≡ self.old.out.items ++ (rewriting.anew (C.becomes change.now) self.old.machine.raw.items ++ self.old.machine.commas.items)) }
         ensures machine { OnOk result (self.new.machine ≡ self.old.machine) }
@@ -125,9 +125,9 @@ impl Rewriter {
     }
 }
 
-/// A source set with its URLs changed, all other bytes as they were. Where every text that the change makes can be a URL of
+/// A source set with its URLs changed, all other bytes as they were. If every text that the change makes can be a URL of
 /// a set (it isn't empty, has no white, and neither begins nor ends with a comma), the URLs of the new set are those of the
-/// old one, changed, in their order. The error is want of memory.
+/// old one, changed, in their order. Fails only if memory runs out.
 pub fn rewrite<C: Change>(alloc: Global, change: &C, set: &[u8]) -> Result<Vec<u8>, AllocError>
     ensures set { IfOk result (λ out. out.items ≡ rewritten (C.becomes change.now) set.now) }
     // No byte outside of URLs is another.

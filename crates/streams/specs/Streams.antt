@@ -4,11 +4,11 @@ use Rattle.std.specs.Io.KnownBytes.{Appends}
 use Rattle.streams.specs.declared.pieces.Piece.{Piece}
 use Rattle.streams.specs.declared.pieces.Piece.TheVariants.{Made, Lent}
 
--- the bytes are all that a reader has left, where it tells them
+-- the bytes are all that a reader has left, if they are known
 abbrev pub IsInput : Option (List ℕ) → List ℕ → Type 0
 IsInput known input = IfSome known (λ bytes. bytes ≡ input)
 
--- a writer that tells its bytes has gained a front of the text
+-- a writer whose bytes are known has gained a front of the text
 pub record AppendsFront (old new : Option (List ℕ)) (text : List ℕ) : Type 0 where
   pub front : List ℕ
   pub rest : List ℕ

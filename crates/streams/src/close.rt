@@ -1,5 +1,5 @@
-//! Closing a file, and what the system says of it. Where a quota or a distant disk is full, that may be
-//! said only when the file is closed; a file that is let go says nothing of it.
+//! Closing a file, and what the system says of it. If a quota or a distant disk is full, that may be said only when
+//! the file is closed; a file that is dropped says nothing of it.
 use std::fs::File;
 use std::io;
 use std::io::{Error, ErrorKind};

@@ -31,7 +31,7 @@ impl From<AllocError> for ReadFault {
 /// How many bytes are asked of a reader at once.
 const PIECE: usize = 65_536;
 
-/// Reads all there is. What was read of a reader that failed, or has too much, is let go.
+/// Reads all there is. What was read of a reader that failed, or has too much, is dropped.
 pub fn read_input<R: Read>(
     alloc: Global,
     reader: &mut R,

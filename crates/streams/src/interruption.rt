@@ -7,7 +7,7 @@ use std::io::{Error, ErrorKind};
 /// The number of interrupted calls at which a stream counts as failed.
 pub const MAX_INTERRUPTED: u32 = 1_000;
 
-/// The number of interrupted calls with this one, where it was interrupted and may be made again.
+/// The number of interrupted calls with this one, if it was interrupted and may be made again.
 pub(crate) fn count_interrupted(error: &Error, interrupted: u32) -> Option<u32>
     requires { interrupted < MAX_INTERRUPTED }
     ensures again { IfSome result (λ count. (error_kind error.now ≡ ErrorKind.Interrupted)

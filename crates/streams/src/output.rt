@@ -1,4 +1,4 @@
-//! The output: a text that is written whole, or in part where the writer fails.
+//! The output: a text that is written whole, or in part if the writer fails.
 ghost use Rattle.std.specs.Prelude.{◌<◌, ◌≤◌, IfOk, OnOk, OnErr};
 ghost use Rattle.std.specs.Io.KnownBytes.{Appends, Keeps};
 ghost use Rattle.streams.specs.Streams.{AppendsFront};
@@ -10,7 +10,7 @@ use std::io::Write;
 #[derive(Clone, Copy, Debug, PartialEq, Eq)]
 pub struct WriteFailed;
 
-// Writes a part of a text, before which calls were interrupted so often, and gives their number with those of this part. Where
+// Writes a part of a text, before which calls were interrupted so often, and gives their number with those of this part. If
 // the writer fails, a front of the part may be written.
 pub(crate) fn write_part<W: Write>(
     writer: &mut W,
@@ -48,7 +48,7 @@ pub(crate) fn flush<W: Write>(writer: &mut W) -> Result<(), WriteFailed>
     }
 }
 
-/// Writes the text and flushes it. Where the writer fails, a front of the text may be written.
+/// Writes the text and flushes it. If the writer fails, a front of the text may be written.
 pub fn write_text<W: Write>(writer: &mut W, text: &[u8]) -> Result<(), WriteFailed>
     ensures ok { OnOk result (Appends (W.contents writer.old) (W.contents writer.new) text.now) }
     ensures err { OnErr result (AppendsFront (W.contents writer.old) (W.contents writer.new) text.now) }

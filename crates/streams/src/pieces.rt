@@ -52,7 +52,7 @@ impl<'a> Pieces<'a> {
         }
     }
 
-    /// Adds bytes that were made for the text. The error is want of memory; then nothing was added.
+    /// Adds bytes that were made for the text. Fails only if memory runs out; then nothing was added.
     pub fn push_made(&mut self, bytes: Vec<u8>) -> Result<(), AllocError>
         ensures ok { OnOk result (self.new ≡ self.old ++ bytes.items) }
         ensures err { OnErr result (self.new ≡ self.old) }
@@ -61,7 +61,7 @@ impl<'a> Pieces<'a> {
         Ok(())
     }
 
-    /// Adds bytes that are lent. The error is want of memory; then nothing was added.
+    /// Adds bytes that are lent. Fails only if memory runs out; then nothing was added.
     pub fn push_lent(&mut self, bytes: &'a [u8]) -> Result<(), AllocError>
         ensures ok { OnOk result (self.new ≡ self.old ++ bytes.now) }
         ensures err { OnErr result (self.new ≡ self.old) }
@@ -70,7 +70,7 @@ impl<'a> Pieces<'a> {
         Ok(())
     }
 
-    // How many bytes it has, or the largest number, where they are more.
+    // How many bytes it has, or the largest number, if they are more.
     fn len(&self) -> usize {
         let mut len: usize = 0;
         for piece in &self.pieces {
@@ -79,7 +79,7 @@ impl<'a> Pieces<'a> {
         len
     }
 
-    /// The text as one, which can be written by one call. The error is want of memory.
+    /// The text as one, which can be written by one call. Fails only if memory runs out.
     pub fn joined(&self, alloc: Global) -> Result<Vec<u8>, AllocError>
         ensures { IfOk result (λ text. text.items ≡ self.now) }
     {
@@ -90,7 +90,7 @@ impl<'a> Pieces<'a> {
         Ok(text)
     }
 
-    /// Writes the text and flushes it. Interrupted calls are counted over all of it; it takes no memory. Where the writer fails, a
+    /// Writes the text and flushes it. Interrupted calls are counted over all of it; it takes no memory. If the writer fails, a
     /// front of the text may be written.
     pub fn write<W: Write>(&self, writer: &mut W) -> Result<(), WriteFailed>
         ensures ok { OnOk result (Appends (W.contents writer.old) (W.contents writer.new) self.now) }

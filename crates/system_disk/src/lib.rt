@@ -30,14 +30,14 @@ impl<'a, R: Files> SystemDisk<'a, R> {
         })
     }
 
-    // Where a name stands.
+    // The path of a name.
     fn place(&self, name: &str) -> Result<String, DiskError> {
         let path = self.path.as_str();
         Ok(format!(in self.alloc; "{path}/{name}")?)
     }
 }
 
-// What a person is told of it is kept elsewhere.
+// What is reported of it to a person is kept elsewhere.
 fn told<T>(answer: io::Result<T>) -> Result<T, DiskError> {
     match answer {
         Ok(value) => Ok(value),

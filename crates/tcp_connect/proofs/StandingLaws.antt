@@ -1,4 +1,4 @@
--- What stays so of those that stand where one comes, goes or changes.
+-- What stays so of the open ones if one comes, goes or changes.
 use Rattle.std.proofs.Common.{◌≡◌, ◌≢◌, ◌<◌, ◌≤◌, ◌+◌, ◌∙◌, ℕ, Bool, true, false, ◌&&◌, List, Option, None, Some, ap, sym, refl, subst, ⊎_elim, [], ◌∷◌, ◌++◌, length, get_or, set, take, drop, suc, arith}
 use Rattle.std.specs.Prelude.{AllPairs, MatchOption, remove, slice_get, slice_set}
 use Rattle.std.specs.List.{AllWithin, HoldsAt}
@@ -62,7 +62,7 @@ IsStandPool-set stands entered at was now pool there same =
           λ equal. differ (sym one ∙ equal ∙ other);
     }
 
--- what stands beside one has another number
+-- an open one beside another has another number
 beside : {W : Type 0} (stands : List (Stand W)) (at : ℕ) (was : Stand W) → AllPairs Differ stands → slice_get stands at ≡ Some was
     → (k : ℕ) (d : Stand W) → k < length (remove stands at) → (get_or (remove stands at) k d).number ≢ was.number
 beside stands at was distinct there k d within =
@@ -135,19 +135,19 @@ EndsFirst-removes test old new at stand (Some waited) first waiting gone =
     let same : gone.0 ≡ stand = cc (gone.1, first.there) in
     (at, stand, first, sym (ap (λ s. s.waiting) same) ∙ sym gone.2, gone.3)
 
--- where the origin is full, the first that waits for it goes
+-- if the origin is full, the first that waits for it goes
 pub MakesRoom-full : {W : Type 0} (of : List ℕ) (most : ℕ) (old new : Pool W) (ended : Option W)
     → most ≤ count_to old.stands of → EndsFirst (waits_for of) old ended new → MakesRoom of most old ended new
 MakesRoom-full of most old new ended many ends =
     record { full = λ _. ends; whole = λ few _. absurd (omega arith); room = λ few _. absurd (omega arith) }
 
--- where all that may stand, the first that waits goes
+-- if all are open that may be, the first that waits goes
 pub MakesRoom-whole : {W : Type 0} (of : List ℕ) (most : ℕ) (old new : Pool W) (ended : Option W)
     → count_to old.stands of < most → MOST ≤ length old.stands → EndsFirst waits old ended new → MakesRoom of most old ended new
 MakesRoom-whole of most old new ended few many ends =
     record { full = λ full. absurd (omega arith); whole = λ _ _. ends; room = λ _ room. absurd (omega arith) }
 
--- where there is room, none goes
+-- if there is room, none goes
 pub MakesRoom-none : {W : Type 0} (of : List ℕ) (most : ℕ) (old : Pool W)
     → count_to old.stands of < most → length old.stands < MOST → MakesRoom of most old None old
 MakesRoom-none of most old few room =
@@ -159,7 +159,7 @@ pub EndsFirst-waits_for : {W : Type 0} (of : List ℕ) (old new : Pool W) (at : 
 EndsFirst-waits_for of old new at stand ended first gone =
     EndsFirst-removes (waits_for of) old new at stand ended first (first_true _ _ first.passes) gone
 
--- what stands at a place within
+-- what is at a place within
 there_within : {X : Type 0} (xs : List X) (at : ℕ) → at < length xs → (x : X) × (slice_get xs at ≡ Some x)
 there_within [] at within = absurd (omega arith)
 there_within (x ∷ xs) at within = (get_or (x ∷ xs) at x, slice_get-get_or (x ∷ xs) at x within)

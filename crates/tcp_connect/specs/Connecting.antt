@@ -5,8 +5,8 @@ use Rattle.address.specs.declared.scheme.Scheme.{Scheme}
 use Rattle.address.specs.declared.scheme.Scheme.TheVariants.{Http, Https}
 use Rattle.requests.specs.Proxies.{Proxy}
 
--- how many connections were asked for, how many calls answered an error, how many of these `Failed`, how many connections that were
--- kept were taken, and how many may stand to a server, where they are kept
+-- how many connections were requested, how many calls answered an error, how many of these `Failed`, how many connections that were
+-- kept were taken, and how many may be open to a server, if they are kept
 pub record Connecting : Type 0 where
   pub made : ℕ
   pub failed : ℕ

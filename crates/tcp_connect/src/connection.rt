@@ -15,16 +15,16 @@ use std::sync::Wait;
 use std::time::{Clock, Duration, Instant};
 
 /// A connection of the system's to an origin, until when it may be read, whether a read or a write of it failed, and its place
-/// among those that are kept, where it has one. Contracts see the origin that it was made for.
+/// among those that are kept, if it has one. Contracts see the origin that it was made for.
 pub struct Connection<'a, R: Net + Wait + Clock> {
     rt: &'a R,
     hosts: &'a Hosts,
     stream: R::Stream,
-    // When the answer has to have come, where there is a limit.
+    // When the answer has to have come, if there is a limit.
     until: Option<Instant>,
-    // How long a read may wait, where there is a limit.
+    // How long a read may wait, if there is a limit.
     read_limit: Option<Duration>,
-    // How many bytes a second may be read by all workers, where there is a limit.
+    // How many bytes a second may be read by all workers, if there is a limit.
     rate: Option<u64>,
     failed: bool,
     of: Origin,
@@ -60,7 +60,7 @@ impl<'a, R: Net + Wait + Clock> Drop for Connection<'a, R> {
     }
 }
 
-// How long a read may wait at most: none where the limit is to be left as it is set, and a fault where no time is left.
+// How long a read may wait at most: none if the limit is to be left as it is set, and a fault if no time is left.
 fn read_time<R: Clock>(
     rt: &R,
     until: Option<Instant>,
@@ -80,7 +80,7 @@ fn read_time<R: Clock>(
 }
 
 impl<'a, R: Net + Wait + Clock> Connection<'a, R> {
-    // None of its calls has failed yet. Where there is a limit for the whole answer it begins now; without a clock there is none.
+    // None of its calls has failed yet. If there is a limit for the whole answer it begins now; without a clock there is none.
     pub(crate) fn new(
         rt: &'a R,
         hosts: &'a Hosts,
@@ -111,7 +111,7 @@ impl<'a, R: Net + Wait + Clock> Connection<'a, R> {
         &self.of
     }
 
-    // The origin that it was made for, the connection again, where none of its calls failed, and its place.
+    // The origin that it was made for, the connection again, if none of its calls failed, and its place.
     pub(crate) fn into_parts(self) -> (Origin, Option<R::Stream>, Option<Taken<'a, R::Stream>>)
         ensures { result.0 ≡ self.entry }
     {
@@ -156,7 +156,7 @@ impl<'a, R: Net + Wait + Clock> Connection<'a, R> {
     }
 }
 
-// A time that is later by so much, where there is one.
+// A time that is later by so much, if there is one.
 fn later(until: Option<Instant>, waited: Duration) -> Option<Instant> {
     let until = until?;
     until.checked_add(waited).or(Some(until))

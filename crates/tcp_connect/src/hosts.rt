@@ -43,7 +43,7 @@ impl Drop for Hosts {
     }
 }
 
-// What is known of a host. None where nobody looked it up yet.
+// What is known of a host. None if nobody looked it up yet.
 //
 // The lock is held while it is looked up, so that a worker who needs the same host waits, and no other does.
 #[derive(Drop)]
@@ -51,11 +51,11 @@ pub(crate) struct Host {
     known: Mutex<Option<Known>>,
 }
 
-// The addresses of a host, with no port, in the order in which they are to be tried; none where the look-up failed.
+// The addresses of a host, with no port, in the order in which they are to be tried; none if the look-up failed.
 #[derive(Drop)]
 pub(crate) struct Known {
     pub(crate) addresses: Vec<SocketAddr>,
-    // The one that took a connection last. It stands in front.
+    // The one that took a connection last. It is in front.
     pub(crate) took: Option<SocketAddr>,
 }
 
@@ -84,7 +84,7 @@ impl Hosts {
         has(&self.open.lock(rt), server)
     }
 
-    // Keeps that this server keeps its connections open. Where there is no memory for it, it is waited for again.
+    // Keeps that this server keeps its connections open. If there is no memory for it, it is waited for again.
     pub(crate) fn note_open<R: Wait>(&self, rt: &R, server: SocketAddr) {
         let _ = self.open.lock(rt).push(server);
     }
@@ -94,7 +94,7 @@ impl Hosts {
         has(&self.silent.lock(rt), server)
     }
 
-    // Keeps that a connection to this server ran into the system's time limit. Where there is no memory for it, the server is
+    // Keeps that a connection to this server ran into the system's time limit. If there is no memory for it, the server is
     // tried again.
     pub(crate) fn note_silent<R: Wait>(&self, rt: &R, server: SocketAddr) {
         let _ = self.silent.lock(rt).push(server);
@@ -112,13 +112,13 @@ impl Hosts {
         book_among(&mut self.turns.lock(rt), of, now, pause)
     }
 
-    // No request to an origin is to begin before this time. Where there is no memory for it, it may.
+    // No request to an origin is to begin before this time. If there is no memory for it, it may.
     pub(crate) fn hold<R: Wait>(&self, rt: &R, of: &Origin, until: u64) {
         self.has_holds.store(true, Ordering::SeqCst);
         hold_among(&mut self.turns.lock(rt), of, until);
     }
 
-    // From the last request to an origin on, so many nanoseconds at least are to pass between the beginnings of two requests to it. Where
+    // From the last request to an origin on, so many nanoseconds at least are to pass between the beginnings of two requests to it. If
     // there is no memory for it, fewer may.
     pub(crate) fn space<R: Wait>(&self, rt: &R, of: &Origin, delay: u64) {
         space_among(&mut self.turns.lock(rt), of, delay);
@@ -161,7 +161,7 @@ pub(crate) fn has(servers: &[SocketAddr], server: SocketAddr) -> bool {
 }
 
 impl Host {
-    // What is known of the host. It is looked up where nobody did yet.
+    // What is known of the host. It is looked up if nobody did yet.
     pub(crate) fn known<R: Net + Wait>(
         &self,
         rt: &R,
@@ -180,7 +180,7 @@ impl Host {
     }
 }
 
-// What stands under a lock is lent to functions of its own: there no way out of them lets go of the lock.
+// These functions take `&mut` to what is under a lock, so that no early return of theirs releases it.
 
 // When a request to an origin is to begin, by the turns of the run.
 fn book_among(turns: &mut Turns, of: &Origin, now: u64, pause: u64) -> Result<u64, AllocError> {
@@ -280,14 +280,14 @@ fn known_among<R: Net>(
     })
 }
 
-// Puts this address in front, where it is there; the others follow as they go round.
+// Puts this address in front, if it is there; the others follow as they go round.
 fn begin_with(addresses: &mut [SocketAddr], first: SocketAddr) {
     if let Some(at) = addresses.iter().position(|a| *a == first) {
         addresses.rotate_left(at);
     }
 }
 
-// A host as a lookup takes it: an IPv6 address stands in brackets in a URL, and without them here (URL Standard, section
+// A host as a lookup takes it: an IPv6 address is in brackets in a URL, and without them here (URL Standard, section
 // 3.5).
 fn plain_host(host: &str) -> &str {
     match host.strip_prefix('[') {
@@ -296,8 +296,8 @@ fn plain_host(host: &str) -> &str {
     }
 }
 
-// What is known where a look-up failed: no addresses, but for want of memory and where the system lacks something. The
-// resolver may say that there is no such host where it had no descriptor to ask with.
+// What is known if a look-up failed: no addresses, except if memory runs out or the system is short of something. The
+// resolver may say that there is no such host if it had no descriptor for its question.
 fn none_found<R: Net>(rt: &R, alloc: Global, e: &Error) -> Result<Vec<SocketAddr>, OpenFault> {
     if e.kind() == ErrorKind::OutOfMemory {
         return Err(OpenFault::Memory);
@@ -314,7 +314,7 @@ fn none_found<R: Net>(rt: &R, alloc: Global, e: &Error) -> Result<Vec<SocketAddr
     Ok(Vec::new(alloc))
 }
 
-// The addresses of a host. A descriptor has to be there before it is asked, and behind an answer that there is none.
+// The addresses of a host. A descriptor has to be there before it is asked, and after an answer that there is none.
 fn look_up<R: Net>(rt: &R, alloc: Global, name: &str) -> Result<Vec<SocketAddr>, OpenFault> {
     if lacks_descriptor(rt) {
         return Err(OpenFault::Lacking(Lack::Descriptor));

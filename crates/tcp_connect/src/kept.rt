@@ -1,4 +1,4 @@
-//! The connections of a run that are kept to be used again (RFC 9112, section 9.3), and how many stand.
+//! The connections of a run that are kept to be used again (RFC 9112, section 9.3), and how many are open.
 ghost use Rattle.std.specs.Prelude.{◌≡◌, ◌⊎◌, [], Some, IfOk, IfSome, MatchOption, string_bytes};
 ghost use Rattle.std.specs.List.{flat_map};
 ghost use Rattle.run_failures.specs.Unasked.{unasked_line, with_origin};
@@ -26,7 +26,7 @@ pub(crate) struct Waiting<S: Drop> {
     pub(crate) stream: S,
 }
 
-// What a run keeps of connections: those that stand, and the origins whose servers sent bytes that nobody had requested. Of these
+// What a run keeps of connections: the open ones, and the origins whose servers sent bytes that nobody had requested. Of these
 // none is kept any more.
 #[derive(Drop)]
 pub(crate) struct Pooled<W> {
@@ -43,7 +43,7 @@ impl<W> Model for Pooled<W> {
 }
 
 impl<W: Drop> Pooled<W> {
-    // None stands, and no origin is known for such bytes. Takes no memory.
+    // None is open, and no origin is known for such bytes. Takes no memory.
     fn new(alloc: Global) -> Pooled<W>
         ensures { result ≡ record { pool = record { stands = []; entered = 0 }; unasked = [] } }
     {
@@ -63,7 +63,7 @@ impl<W: Drop> Pooled<W> {
         self.standing.take(of.as_str())
     }
 
-    // A place for a new one to an origin, of which so many may stand.
+    // A place for a new one to an origin, of which so many may be open.
     fn enter(&mut self, alloc: Global, of: &Origin, most: usize) -> Result<Entered<W>, AllocError>
         ensures ok { IfOk result (λ entered. EntersKept of.now most self.old entered.place entered.ended self.new) }
         ensures unasked { self.new.unasked ≡ self.old.unasked }
@@ -96,7 +96,7 @@ impl<W: Drop> Pooled<W> {
         let _ = self.unasked.add(of);
     }
 
-    // The connection of this number stands no longer.
+    // The connection of this number isn't open any more.
     fn leave(&mut self, number: u64)
         ensures pool { Leaves number self.old.pool self.new.pool }
         ensures unasked { self.new.unasked ≡ self.old.unasked }
@@ -142,7 +142,7 @@ impl<'k, S: Drop> Taken<'k, S> {
         self.kept
     }
 
-    // The connection stands no longer.
+    // The connection isn't open any more.
     pub(crate) fn leave<R: Wait>(self, rt: &R) {
         let Taken { kept, number } = self;
         kept.pooled.lock(rt).leave(number);
@@ -167,7 +167,7 @@ impl<'k, S: Drop> Taken<'k, S> {
 }
 
 impl<S: Drop> Kept<S> {
-    /// None stands. Takes no memory.
+    /// None is open. Takes no memory.
     pub fn new(alloc: Global) -> Kept<S> {
         Kept {
             alloc,
@@ -199,7 +199,7 @@ impl<S: Drop> Kept<S> {
         None
     }
 
-    // A place for a new connection to an origin, of which so many may stand, and one that has to go for it.
+    // A place for a new connection to an origin, of which so many may be open, and one that has to go for it.
     pub(crate) fn enter<'k, R: Wait>(
         &'k self,
         rt: &R,
@@ -231,7 +231,7 @@ impl<S: Drop> Kept<S> {
 }
 
 impl<S: OpenStream + Drop> Kept<S> {
-    /// Ends those that wait. Each holds a descriptor, which files need too once a run has asked for all.
+    /// Ends those that wait. Each holds a descriptor, which files need too once a run has requested all.
     pub fn end_waiting<R: Wait>(&self, rt: &R) {
         for _ in 0..MOST {
             match self.take_oldest(rt) {
@@ -259,7 +259,7 @@ impl<S: OpenStream + Drop> Kept<S> {
     }
 }
 
-// What stands under the lock is lent to functions of its own: there no way out of them lets go of the lock.
+// These functions take `&mut` to what is under the lock, so that no early return of theirs releases it.
 
 // The one that waits longest, if it waits too long.
 fn stale_among<S: Drop, R: Clock>(pooled: &mut Pooled<Waiting<S>>, rt: &R) -> Option<Waiting<S>>
@@ -299,7 +299,7 @@ fn text_among<W: Drop>(pooled: &mut Pooled<W>) -> Result<String, AllocError> {
     pooled.text()
 }
 
-// Whether a connection that waits since then may be used. It may not where the clock can't be read.
+// Whether a connection that waits since then may be used. It may not if the clock can't be read.
 pub(crate) fn is_fresh<R: Clock>(rt: &R, since: &Instant) -> bool {
     match since.elapsed(rt) {
         Ok(waited) => waited.as_secs() < IDLE_SECONDS,

@@ -1,4 +1,4 @@
-//! What the system may lack for a connection, and how long it is waited for.
+//! What the system may be short of for a connection, and how long it is waited for.
 use connect::ConnectFault;
 use run_failures::LossKind;
 use std::alloc::{AllocError, Global};
@@ -27,10 +27,10 @@ const EMFILE: i32 = 24;
 
 const ENOBUFS: i32 = 105;
 
-// What the library says where the resolver has no answer now (getaddrinfo(3), EAI_AGAIN). It gives no number.
+// What the library says if the resolver has no answer now (getaddrinfo(3), EAI_AGAIN). It gives no number.
 const AGAIN: &str = "Temporary failure in name resolution";
 
-// What the system lacks for a connection. None of it says anything of the host.
+// What the system is short of for a connection. None of it says anything of the host.
 #[derive(Clone, Copy, PartialEq, Eq)]
 pub(crate) enum Lack {
     // A descriptor, or a buffer: the run's own connections hold some, and give them back when they end.
@@ -80,9 +80,9 @@ impl Lack {
 pub(crate) enum OpenFault {
     // The host has no address, or nobody there took the connection.
     Failed(LossKind),
-    // Memory is wanting.
+    // Memory ran out.
     Memory,
-    // The system lacks something: the host wasn't asked.
+    // The system is short of something: the host wasn't asked.
     Lacking(Lack),
 }
 
@@ -93,7 +93,7 @@ impl From<AllocError> for OpenFault {
 }
 
 impl OpenFault {
-    // What is told of it. A lack is waited for first.
+    // What is reported of it. A shortage is waited for first.
     pub(crate) fn told(self) -> ConnectFault {
         match self {
             OpenFault::Failed(_) | OpenFault::Lacking(_) => ConnectFault::Failed,
@@ -101,7 +101,7 @@ impl OpenFault {
         }
     }
 
-    // Why a connection is lost by it; want of memory loses none.
+    // Why a connection is lost by it; running out of memory loses none.
     pub(crate) fn loss(self) -> Option<LossKind> {
         match self {
             OpenFault::Failed(kind) => Some(kind),
@@ -116,7 +116,7 @@ fn is_want(number: i32) -> bool {
     number == ENFILE || number == EMFILE || number == ENOBUFS
 }
 
-// What the system lacked where a call failed so; none where the failure says something of the host.
+// What the system was short of if a call failed so; none if the failure says something of the host.
 pub(crate) fn lack_of(e: &Error) -> Option<Lack> {
     match e.kind() {
         ErrorKind::AddrNotAvailable => Some(Lack::Port),
@@ -128,7 +128,7 @@ pub(crate) fn lack_of(e: &Error) -> Option<Lack> {
     }
 }
 
-// Why a connection is lost where a call failed so.
+// Why a connection is lost if a call failed so.
 pub(crate) fn loss_of(e: &Error) -> LossKind {
     match e.kind() {
         ErrorKind::ConnectionRefused => LossKind::Refused,
@@ -155,7 +155,7 @@ pub(crate) fn is_again(alloc: Global, e: &Error) -> Result<bool, AllocError> {
     Ok(words.contains(AGAIN))
 }
 
-// How long was waited for what the system lacked for one connection.
+// How long was waited for what the system was short of for one connection.
 #[derive(Drop)]
 pub(crate) struct Patience {
     // When the wait began; none before it did.
@@ -173,7 +173,7 @@ impl Patience {
     }
 
     // Waits a moment, and says whether it is to be tried again; `ended` of the run's connections have ended by now. The time
-    // for what these give back begins anew with each that ended. Where there is no clock nothing is waited for.
+    // for what these give back begins anew with each that ended. If there is no clock nothing is waited for.
     pub(crate) fn pause<R: Clock>(&mut self, rt: &R, lack: Lack, ended: u64) -> bool {
         let Ok(now) = Instant::now(rt) else {
             return false;

@@ -1,14 +1,14 @@
-//! The connections that stand: how many to each server and in all, and which of them waits longest.
+//! The open connections: how many to each server and in all, and which of them waits longest.
 ghost use Rattle.std.specs.Prelude.{◌≡◌, ◌+◌, ◌<◌, ◌≤◌, ℕ, true, false, is_some, length, MatchOption, IfSome, IfNone, IfOk, None, Some, slice_get, slice_set, remove, ◌++◌, ◌∷◌, [], ◌↔◌, IsTrue, OnErr, Option, option_copied, string_bytes};
 ghost use Rattle.tcp_connect.specs.Standing.{Stand, Pool, waits, is_to, waits_for, has_number, count_to, NonePasses, IsFirst, IsLastStand, HasStandRoom, Removes, EndsFirst, TakesStand, MakesRoom, AddsStand, PutsDown, Leaves};
 
 use std::alloc::{AllocError, Global};
 use std::marker::Model;
 
-/// The most that stand at one time.
+/// The most that are open at one time.
 pub(crate) const MOST: usize = 64;
 
-// A connection that stands: its number, the text of the origin that it was made for, and what waits there, where it isn't in use.
+// An open connection: its number, the text of the origin that it was made for, and what waits there, if it isn't in use.
 #[derive(Drop)]
 pub(crate) struct Place<W> {
     number: u64,
@@ -56,7 +56,7 @@ impl<W> Place<W> {
         self.waiting.as_ref()
     }
 
-    // What waits there, which stands no longer.
+    // What waits there, which isn't open any more.
     fn into_waiting(self) -> Option<W>
         ensures { result ≡ self.waiting }
     {
@@ -124,22 +124,22 @@ fn count<W>(places: &[Place<W>], of: &str) -> usize
     places.iter().filter(|it| it.is_to(of)).count()
 }
 
-// What came of a request for a place: the place's number, where there is room for it, and one that waited, which has to go.
+// The result of a request for a place: the place's number, if there is room for it, and one that waited, which has to go.
 #[derive(Drop)]
 pub(crate) struct Entered<W> {
     pub(crate) place: Option<u64>,
     pub(crate) ended: Option<W>,
 }
 
-// Those that stand. One that is put down to wait goes to the end, so those that wait stand in the order of their waits.
+// The open ones. One that is put down to wait goes to the end, so those that wait are in the order of their waits.
 #[derive(Drop)]
 pub(crate) struct Standing<W> {
     places: Vec<Place<W>>,
     entered: u64,
 }
 
-// Contracts see what stands, and how many were entered. Of every value it holds that no more stand than may, each by a number of
-// its own.
+// Contracts see what is open, and how many were entered. Of every value it holds that no more are open than may be, each by a
+// number of its own.
 impl<W> Model for Standing<W> {
     ghost use Rattle.tcp_connect.specs.Standing.{Pool, IsStandPool};
 
@@ -151,7 +151,7 @@ impl<W> Model for Standing<W> {
 }
 
 impl<W> Standing<W> {
-    // None stands. Takes no memory.
+    // None is open. Takes no memory.
     pub(crate) fn new(alloc: Global) -> Standing<W>
         ensures { result ≡ record { stands = []; entered = 0 } }
     {
@@ -180,14 +180,14 @@ impl<W> Standing<W> {
         self.places[at].waiting()
     }
 
-    // Whether one more to this origin may stand, of which so many may.
+    // Whether one more to this origin may be open, of which so many may be.
     fn has_room(&self, of: &str, most: usize) -> bool
         ensures { IsTrue result ↔ HasStandRoom of.now most self.now }
     {
         self.places.len() < MOST && count(&self.places, of) < most && self.entered < u64::MAX
     }
 
-    // One more stands to this origin, where there is room for it, and is in use; this gives its number.
+    // One more is open to this origin, if there is room for it, and is in use; this gives its number.
     fn add(&mut self, of: String, most: usize) -> Result<Option<u64>, AllocError>
     where
         W: Drop,
@@ -221,7 +221,7 @@ impl<W: Drop> Standing<W> {
         self.places.remove(at).into_waiting()
     }
 
-    // Takes the one that waits longest, which stands no longer.
+    // Takes the one that waits longest, which isn't open any more.
     pub(crate) fn take_oldest(&mut self) -> Option<W>
         ensures { EndsFirst waits self.old result self.new }
     {
@@ -229,7 +229,7 @@ impl<W: Drop> Standing<W> {
         self.remove(at)
     }
 
-    // Takes one away that waits, where there is no room for one more to this origin, or for one more at all.
+    // Takes one away that waits, if there is no room for one more to this origin, or for one more at all.
     fn make_room(&mut self, of: &str, most: usize) -> Option<W>
         ensures { MakesRoom of.now most self.old result self.new }
     {
@@ -243,7 +243,7 @@ impl<W: Drop> Standing<W> {
         None
     }
 
-    // A place for a new one to an origin, of which so many may stand. One that waits goes for it where there is no room.
+    // A place for a new one to an origin, of which so many may be open. One that waits goes for it if there is no room.
     pub(crate) fn enter(&mut self, of: String, most: usize) -> Result<Entered<W>, AllocError>
         ensures ok { IfOk result (λ entered. (left : Pool W) × MakesRoom (string_bytes of) most self.old entered.ended left × AddsStand (string_bytes of) most left entered.place self.new) }
         ensures err { OnErr result ((ended : Option W) × MakesRoom (string_bytes of) most self.old ended self.new) }
@@ -255,7 +255,7 @@ impl<W: Drop> Standing<W> {
         Ok(Entered { place, ended })
     }
 
-    // Puts one down to wait. It comes back where none has this number.
+    // Puts one down to wait. It comes back if none has this number.
     pub(crate) fn put(&mut self, number: u64, waiting: W) -> Option<W>
         ensures { PutsDown number waiting self.old result self.new }
     {
@@ -269,7 +269,7 @@ impl<W: Drop> Standing<W> {
         None
     }
 
-    // The one of this number stands no longer.
+    // The one of this number isn't open any more.
     pub(crate) fn leave(&mut self, number: u64)
         ensures { Leaves number self.old self.new }
     {

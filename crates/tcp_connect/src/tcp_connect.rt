@@ -28,7 +28,7 @@ use std::time::{Clock, Duration, Instant};
 /// The most milliseconds that the server is waited for at the end of a connection.
 const CLOSE_TIMEOUT: u64 = 100;
 
-// What a run keeps of connections, and how many may stand to a server.
+// What a run keeps of connections, and how many may be open to a server.
 #[derive(Drop)]
 struct Keeping<'a, S: Drop> {
     kept: &'a Kept<S>,
@@ -38,8 +38,8 @@ struct Keeping<'a, S: Drop> {
 /// Makes connections over TCP, for one worker. A host is looked up once for a run, by whoever needs it first, and a lookup
 /// that failed isn't made again; its addresses are tried from the one that took a connection last, and a server that didn't
 /// answer within the system's time limit isn't tried again. There is no limit on the time of a lookup, nor of a connection's
-/// making, but the system's. What the system itself lacks, as a descriptor or a port, says nothing of the host: it is waited
-/// for, and tried again. Where connections are kept, one that waited is ended for it first.
+/// making, except the system's. What the system itself is short of, such as a descriptor or a port, says nothing of the
+/// host: it is waited for, and tried again. If connections are kept, one that waited is ended for it first.
 #[derive(Drop)]
 pub struct TcpConnect<'a, R: Net + Wait + Clock> {
     rt: &'a R,
@@ -47,7 +47,7 @@ pub struct TcpConnect<'a, R: Net + Wait + Clock> {
     hosts: &'a Hosts,
     // The servers that were late to close the last connection that this worker had to them.
     late: Vec<SocketAddr>,
-    // Where connections are kept; none where each ends behind its question.
+    // Where connections are kept; none if each ends after its exchange.
     keeping: Option<Keeping<'a, R::Stream>>,
     // The proxies that are asked in place of servers.
     proxies: Proxies,
@@ -58,7 +58,7 @@ pub struct TcpConnect<'a, R: Net + Wait + Clock> {
     taken: u64,
     failed: u64,
     refused: u64,
-    // Why the last connection was lost; none where it was made, and didn't break.
+    // Why the last connection was lost; none if it was made, and didn't break.
     loss: Option<LossKind>,
 }
 
@@ -100,7 +100,7 @@ fn is_of(family: Family, address: SocketAddr) -> bool {
     }
 }
 
-// A connection to the server, within the limit where there is one.
+// A connection to the server, within the limit if there is one.
 fn call<R: Net>(rt: &R, server: SocketAddr, limit: Option<Duration>) -> io::Result<R::Stream> {
     match limit {
         Some(limit) => rt.connect_timeout(server, limit),
@@ -109,7 +109,7 @@ fn call<R: Net>(rt: &R, server: SocketAddr, limit: Option<Duration>) -> io::Resu
 }
 
 // A connection to the first of the addresses that takes one, and that address. Else it is lost for what the first of them
-// answered. A port that lacks is waited for where no address gave an answer, or at the one that took a connection before.
+// answered. A missing port is waited for if no address gave an answer, or at the one that took a connection before.
 fn stream_to<R: Net + Wait>(
     rt: &R,
     hosts: &Hosts,
@@ -141,7 +141,7 @@ fn stream_to<R: Net + Wait>(
     }
 }
 
-// A connection to the server at an address, where it isn't known not to answer.
+// A connection to the server at an address, if it isn't known not to answer.
 fn stream_at<R: Net + Wait>(
     rt: &R,
     hosts: &Hosts,
@@ -208,8 +208,8 @@ fn stays_open<S: Read + OpenStream>(stream: &mut S) -> bool {
     }
 }
 
-// Ends a connection. Whoever closes first keeps the local port for a minute. So the server is waited for, where it isn't known
-// to keep its connections open: it is so where it was late twice on end for this worker.
+// Ends a connection. Whoever closes first keeps the local port for a minute. So the server is waited for, unless it is known
+// to keep its connections open, which it is if it was late twice in a row for this worker.
 fn end<R: Net + Wait>(rt: &R, hosts: &Hosts, late: &mut Vec<SocketAddr>, mut stream: R::Stream) {
     let Ok(server) = stream.peer_addr() else {
         return;
@@ -222,7 +222,7 @@ fn end<R: Net + Wait>(rt: &R, hosts: &Hosts, late: &mut Vec<SocketAddr>, mut str
     } else if has(late, server) {
         hosts.note_open(rt, server);
     } else {
-        // Where there is no memory for it, it counts as in time.
+        // If there is no memory for it, it counts as in time.
         let _ = late.push(server);
     }
 }
@@ -249,8 +249,8 @@ impl<'a, R: Net + Wait + Clock> TcpConnect<'a, R> {
         }
     }
 
-    /// Why the connection that was last asked for or taken was lost: it wasn't made, or it broke by the time when it was ended. None
-    /// where neither is so, or memory was wanting.
+    /// Why the connection that was last requested or taken was lost: it wasn't made, or it broke by the time when it was ended. None
+    /// if neither is so, or memory ran out.
     pub fn loss(&self) -> Option<LossKind> {
         self.loss
     }
@@ -261,7 +261,7 @@ impl<'a, R: Net + Wait + Clock> TcpConnect<'a, R> {
         Some(time.as_secs())
     }
 
-    /// The same, which keeps connections among those of the run: so many to a server at most stand at any time.
+    /// The same, which keeps connections among those of the run: at most so many are open to a server at any time.
     pub fn keeping(self, kept: &'a Kept<R::Stream>, most: u32) -> TcpConnect<'a, R>
         ensures { result ≡ record self.entry { most = Some most } }
     {
@@ -321,7 +321,7 @@ impl<'a, R: Net + Wait + Clock> TcpConnect<'a, R> {
         Some(keeping.kept)
     }
 
-    // A place for a new connection to an origin, where connections are kept. One that waited may have to go for it.
+    // A place for a new connection to an origin, if connections are kept. One that waited may have to go for it.
     fn enter(&self, of: &Origin) -> Result<Option<Taken<'a, R::Stream>>, AllocError> {
         let Some(Keeping { kept, most }) = &self.keeping else {
             return Ok(None);
@@ -334,7 +334,7 @@ impl<'a, R: Net + Wait + Clock> TcpConnect<'a, R> {
         Ok(place)
     }
 
-    // The connection of this place stands no longer.
+    // The connection of this place isn't open any more.
     fn leave(&self, place: Option<Taken<'a, R::Stream>>) {
         match place {
             Some(place) => place.leave(self.rt),
@@ -440,7 +440,7 @@ impl<'a, R: Net + Wait + Clock> TcpConnect<'a, R> {
         Ok(stream)
     }
 
-    // A connection to an origin. What the system lacks is waited for.
+    // A connection to an origin. What the system is short of is waited for.
     fn wait_for(&self, of: &Origin) -> Result<R::Stream, OpenFault> {
         let mut patience = Patience::new();
         for _ in self.rt.forever() {
@@ -458,7 +458,7 @@ impl<'a, R: Net + Wait + Clock> TcpConnect<'a, R> {
         unreachable!()
     }
 
-    // A connection to an origin whose turn has come, in a place of its own where connections are kept.
+    // A connection to an origin whose turn has come, in a place of its own if connections are kept.
     fn make(&mut self, of: &Origin) -> Result<Connection<'a, R>, OpenFault>
         ensures same { self.new ≡ self.old }
         ensures of { IfOk result (λ connection. connection ≡ of.now) }
@@ -482,7 +482,7 @@ impl<'a, R: Net + Wait + Clock> TcpConnect<'a, R> {
         }
     }
 
-    // Ends a connection, and leaves its place. One that failed tells nothing of how the server ends it: it is ended at once.
+    // Ends a connection, and leaves its place. One that failed says nothing of how the server ends it: it is ended at once.
     fn end_parts(&mut self, stream: Option<R::Stream>, place: Option<Taken<'a, R::Stream>>)
         ensures { self.new ≡ self.old }
     {

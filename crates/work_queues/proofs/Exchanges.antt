@@ -29,9 +29,9 @@ pub record IsExchanged (old new : Queues) (queue a b first second : ℕ) : Type 
 abbrev at : ℕ → ℕ → Place
 at queue place = record { queue = queue; place = place }
 
--- ---- where the numbers stand
+-- ---- where the numbers are
 
--- a number that stood elsewhere is none of the two
+-- a number that was elsewhere is none of the two
 none_of : (old : Queues) (queue a number here place : ℕ) → IsPlaced old → slice_get (numbers_of old.queues.items queue) a ≡ Some number
     → (other : ℕ) → slice_get (numbers_of old.queues.items here) place ≡ Some other → (here ≡ queue → place ≢ a) → other ≢ number
 none_of old queue a number here place placed was other there differ is =
@@ -248,7 +248,7 @@ exchange_leaves old new queue a b here there first second placed is in_a in_b fi
         get-set_other (set old.places.items first.number (at queue b)) second.number first.number (at queue a) h
         ∙ get-set_same old.places.items first.number (at queue b) (slice_get_within old.places.items first.number (at queue a) (placed.found queue a first.number first_was))
 
--- the first of the two then stands at the place of the second
+-- the first of the two then is at the place of the second
 pub exchange_moves : (queues : List Queue) (queue a b : ℕ) (here there : Queue) (first second : Member) → queue < length queues → here ≡ get_or queues queue here
     → a < length (numbers_of queues queue) → b < length (numbers_of queues queue) → first ≡ get_or here.members.items a first
     → there.members.items ≡ set (set here.members.items a second) b first

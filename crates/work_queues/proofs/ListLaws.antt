@@ -17,7 +17,7 @@ use Rattle.work_queues.specs.declared.lists.Lists.{Lists}
 use Rattle.work_queues.specs.declared.pool.Pool.{Pool}
 use Rattle.work_queues.proofs.QueueLaws.{none_queued, seat_place}
 
--- ---- what stands at a place of a mapped list
+-- ---- what is at a place of a mapped list
 
 pub mapped : {A B : Type 0} (f : A → B) (xs : List A) (i : ℕ) (x : A) → slice_get xs i ≡ Some x → slice_get (map f xs) i ≡ Some (f x)
 mapped f [] i x at = cc

@@ -106,7 +106,7 @@ numbers-set_even queues queue old new at even other =
       | unequal h ↦ numbers-set_other queues queue other new h
     ]
 
--- what stands at a place of a list, as code reads it
+-- what is at a place of a list, as code reads it
 pub read : {X : Type 0} (xs : List X) (i : ℕ) (x : X) → i < length xs → x ≡ get_or xs i x → slice_get xs i ≡ Some x
 read xs i x lt is = slice_get-get_or xs i x lt ∙ ap (λ z. Some z) (sym is)
 
@@ -135,7 +135,7 @@ queued_past [] queue le = refl
 queued_past (first ∷ others) zero le = absurd (omega arith)
 queued_past (first ∷ others) (suc queue) le = queued_past others queue (omega arith)
 
--- who stands within the count is in the queue
+-- a number that is within the count is in the queue
 pub seat_queued : (queues : Queues) (queue place number : ℕ) → IsPlaced queues → place < queued_of queues.queues.items queue → slice_get (numbers_of queues.queues.items queue) place ≡ Some number
     → slice_get (seats queues) number ≡ Some (record { queue = queue; is_queued = true })
 seat_queued queues queue place number placed lt stands =
@@ -144,7 +144,7 @@ seat_queued queues queue place number placed lt stands =
     ∙ ap (λ z. option_map (seat_of queues.queues.items) z) (placed.found queue place number stands)
     ∙ ap (λ z. Some (record { queue = queue; is_queued = z })) yes
 
--- the seat of a number tells its place
+-- the seat of a number has its place
 pub seat_place : (queues : Queues) (number : ℕ) (seat : Seat) → slice_get (seats queues) number ≡ Some seat
     → (place : Place) × (slice_get queues.places.items number ≡ Some place) × (seat ≡ seat_of queues.queues.items place)
 seat_place queues number seat at = go (slice_get queues.places.items number) refl
@@ -161,7 +161,7 @@ seat_place queues number seat at = go (slice_get queues.places.items number) ref
           cc,
         )
 
--- where a queue has somebody in it there is one at each place below the count
+-- if a queue has a number in it, there is one at each place below the count
 pub none_queued : (queues : Queues) (queue number : ℕ) → IsPlaced queues → queued_of queues.queues.items queue ≡ 0 → slice_get (seats queues) number ≡ Some (record { queue = queue; is_queued = true }) → ⊥
 none_queued queues queue number placed none at =
     let there = seat_place queues number (record { queue = queue; is_queued = true }) at in
@@ -185,7 +185,7 @@ seat_is queues number seat place at there =
     sym (slice_get-map (seat_of queues.queues.items) queues.places.items number ∙ ap (λ z. option_map (seat_of queues.queues.items) z) there) ∙ at in
     cc
 
--- what stands at a place, written there again
+-- what is at a place, written there again
 pub set_kept : {X : Type 0} (xs : List X) (i : ℕ) (x : X) → slice_get xs i ≡ Some x → set xs i x ≡ xs
 set_kept [] i x at = refl
 set_kept (y ∷ xs) zero x at = let is : y ≡ x = cc in ap (λ z. z ∷ xs) (sym is)

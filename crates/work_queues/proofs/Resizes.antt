@@ -70,7 +70,7 @@ relabelled old new queue here there placed at queues numbers queued places place
 
 -- ---- the boundary moves over one place
 
--- the new count tells the same of each place but this one
+-- the new count says the same of each place but this one
 abbrev pub IsMoved : ℕ → ℕ → ℕ → Type 0
 IsMoved boundary was now = (place : ℕ) → place ≢ boundary → nat_lt place now ≡ nat_lt place was
 

@@ -185,7 +185,7 @@ still_seated : (old new : Pool) (test : Job → Bool) (jobs : List Job) (count :
     → seats new.numbers ≡ seats old.numbers → vec_len old.numbers.queues ≤ vec_len new.numbers.queues → IsSeated new test jobs count
 still_seated old new test jobs count is pool same more = record { pool = pool; seats = same ∙ is.seats; hosts = let long = is.hosts in omega (arith, long, more) }
 
--- the lists stay as they are but for room, and for hosts that the pools have more
+-- the lists stay as they are except for room, and for hosts that the pools have more
 pub room_keeps : (old new : Lists) → AreListsKept old → new.hosts.entries ≡ old.hosts.entries → new.jobs.items ≡ old.jobs.items
     → IsPool new.waiting → seats new.waiting.numbers ≡ seats old.waiting.numbers → vec_len old.waiting.numbers.queues ≤ vec_len new.waiting.numbers.queues
     → IsPool new.parked → seats new.parked.numbers ≡ seats old.parked.numbers → vec_len old.parked.numbers.queues ≤ vec_len new.parked.numbers.queues

@@ -1,4 +1,4 @@
--- What the lists behind an agenda stand for, and what ties them together.
+-- What the lists under an agenda represent, and what ties them together.
 use Rattle.std.specs.Prelude.{◌≡◌, ◌<◌, ◌≤◌, ℕ, Bool, ◌&&◌, ◌==◌, List, [], map, take, length, slice_get, slice_index_or, Some, count_by, vec_len}
 use Rattle.address.specs.Address.{OriginText}
 use Rattle.work_queues.specs.Tasks.{Item, is_parked, is_waiting, is_out, is_due}

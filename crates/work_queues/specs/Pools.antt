@@ -3,7 +3,7 @@ use Rattle.std.specs.Prelude.{◌≡◌, ◌<◌, ℕ, nat_lt, length, slice_get
 use Rattle.work_queues.specs.Queues.{IsPlaced, seats, queued_of}
 use Rattle.work_queues.specs.declared.pool.Pool.{Pool}
 
--- a host is in the one queue of hosts where a number of it is in
+-- a host is in the one queue of hosts if a number of it is in
 pub record IsPool (pool : Pool) : Type 0 where
   pub numbers : IsPlaced pool.numbers
   pub hosts : IsPlaced pool.hosts

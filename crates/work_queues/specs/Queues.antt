@@ -21,7 +21,7 @@ pub record Seat : Type 0 where
   pub queue : ℕ
   pub is_queued : Bool
 
--- the seat of the number that stands at this place
+-- the seat of the number at this place
 abbrev pub seat_of : List Queue → Place → Seat
 seat_of queues place = record { queue = place.queue; is_queued = nat_lt place.place (queued_of queues place.queue) }
 
@@ -29,7 +29,7 @@ seat_of queues place = record { queue = place.queue; is_queued = nat_lt place.pl
 abbrev pub seats : Queues → List Seat
 seats queues = map (seat_of queues.queues.items) queues.places.items
 
--- a number stands where its place says, and nowhere else
+-- a number is where its place says, and nowhere else
 pub record IsPlaced (queues : Queues) : Type 0 where
   pub found : (queue place number : ℕ) → slice_get (numbers_of queues.queues.items queue) place ≡ Some number
       → slice_get queues.places.items number ≡ Some (record { queue = queue; place = place })

@@ -35,7 +35,7 @@ impl Model for Agenda {
 }
 
 impl Agenda {
-    /// No numbers. The error is want of memory.
+    /// No numbers. Fails only if memory runs out.
     pub fn new(alloc: Global) -> Result<Self, AllocError>
         ensures { IfOk result (λ agenda. agenda.items ≡ []) }
     {
@@ -60,7 +60,7 @@ impl Agenda {
         self.lists.jobs.len()
     }
 
-    /// One number more, of this origin: the number of how many there were. The error is want of memory, and leaves the items as they were.
+    /// One number more, of this origin: the number of how many there were. Fails only if memory runs out, and then leaves the items as they were.
     pub fn add(
         &mut self,
         alloc: Global,

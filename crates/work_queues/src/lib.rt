@@ -1,6 +1,6 @@
 //! Work queues: what is left to do for numbered things, found without going through them. The crate's one idea is that a number belongs to one queue for
 //! good and only changes its place among that queue's members, so nothing but a new number takes memory. The meaning is in `specs/`.
-//! Its tests stand in `retrieval_tests`.
+//! Its tests are in `retrieval_tests`.
 #![tactic(auto)]
 
 mod agenda;

@@ -1,4 +1,4 @@
-//! The lists behind an agenda, numbers by host, counted and queued, and how they grow by a number.
+//! The lists under an agenda, numbers by host, counted and queued, and how they grow by a number.
 ghost use Rattle.std.specs.Prelude.{◌≡◌, ◌<◌, [], ◌∷◌, ◌++◌, length, OnOk, IfOk};
 ghost use Rattle.work_queues.specs.Lists.{AreListsKept, items_of, key_at};
 ghost use Rattle.work_queues.specs.inner.Lists.{HasSpace};
@@ -28,7 +28,7 @@ pub(crate) struct Lists {
 }
 
 impl Lists {
-    /// The place of an origin among the hosts, where it is put if it isn't there. The error is want of memory.
+    /// The place of an origin among the hosts, where it is put if it isn't there. Fails only if memory runs out.
     pub(crate) fn host_of(&mut self, alloc: Global, origin: Origin) -> Result<usize, AllocError>
         requires { AreListsKept self.old }
         ensures kept { AreListsKept self.new }

@@ -33,7 +33,7 @@ impl Pool {
         })
     }
 
-    /// One host more, which has no numbers yet. The error is want of memory, and changes nothing.
+    /// One host more, which has no numbers yet. Fails only if memory runs out, and then changes nothing.
     pub(crate) fn open(&mut self, alloc: Global) -> Result<(), AllocError>
         requires { IsPool self.old }
         ensures pool { IsPool self.new }

@@ -21,7 +21,7 @@ pub(crate) struct Queue {
     queued: usize,
 }
 
-/// Where a number stands: its queue, and its place among that queue's members.
+/// Where a number is: its queue, and its place among that queue's members.
 #[derive(Clone, Copy)]
 struct Place {
     queue: usize,

@@ -70,7 +70,7 @@ made_once (ask.Rules o ∷ asks) once =
     AllPairs-cons (λ (one other : Ask). one ≢ other) (ask.Rules o) asks (apart (ask.Rules o) asks (λ among. once.origins.0 (rules_among asks o among)))
     (made_once asks (record { pages = once.pages; origins = once.origins.1 }))
 
--- what was requested is just what is wanted
+-- what was requested is exactly what is wanted
 pub are_asked : {B : Type 0} (may_say : Text → Outcome → B → Type 0) (may_rule : Text → RuleSetValue → Type 0) (plan : Plan) (asks : List Ask) (s : State)
     → AreOnce asks → AreRecorded asks (answers s) → IsComplete (policy plan) s → IsTold may_say may_rule (answers s) → AreAsked may_say may_rule plan asks (answers s)
 are_asked may_say may_rule plan asks s once recorded complete told = record {

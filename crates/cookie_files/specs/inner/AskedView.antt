@@ -1,4 +1,4 @@
--- What the code's own type of what is asked for is.
+-- What the code's own type of what is requested is.
 use Rattle.cookie_files.specs.Matches as matches
 use Rattle.cookie_files.specs.declared.matching.Asked.{Asked}
 

@@ -28,7 +28,7 @@ ends_span (Quoted quote) b = b == quote || (is_newline b || b == 92)
 ends_span Unquoted b = b == 41 || (is_white b || (b == 92 || is_unfit b))
 ends_span Bad b = b == 41 || b == 92
 
--- the part that words and what is between them are, behind so many open parentheses from that of an image set on
+-- the part that words and what is between them are, after so many open parentheses from that of an image set on
 abbrev pub quiet_span : ℕ → Span
 quiet_span zero = Quiet
 quiet_span (suc depth) = InSet

@@ -9,7 +9,7 @@ use Rattle.html_links.specs.Contexts.{Context}
 use Rattle.css_links.specs.References.{Front, ended}
 use Rattle.html_links.specs.Lexing.{kept_with, in_raw_end, remaining}
 
--- a lexer behind an attribute of that value
+-- a lexer after an attribute of that value
 pub record HasRead (old : Lexer) (value : List ℕ) (new : Lexer) : Type 0 where
   pub context : new.context ≡ old.context
   pub opens : new.opens ≡ old.opens
@@ -29,11 +29,11 @@ source_if ends.Sheet name attributes shown = FromSheet shown ∷ []
 abbrev pub tag_ended : Ended → Lexer → List Source
 tag_ended e l = source_if e l.name.items l.attributes.items l.shown.items
 
--- A step over a byte: what comes of the byte and the rest is the tag or style sheet that it ended and what comes of the rest.
+-- A step over a byte: what results from the byte and the rest is the tag or style sheet that it ended and what results from the rest.
 abbrev pub GivesTag : (List ℕ → List Source) → ℕ → Ended → Lexer → Type 0
 GivesTag before byte ends new = (rest : List ℕ) → before (byte ∷ rest) ≡ tag_ended ends new ++ remaining new rest
 
--- A run over the front of a text that ends no tag: what comes of the text and the rest is what comes of what is left of it and the rest.
+-- A run over the front of a text that ends no tag: what results from the text and the rest is what results from what is left of it and the rest.
 abbrev pub LeavesTag : (List ℕ → List Source) → List ℕ → List ℕ → Lexer → Type 0
 LeavesTag before text left new = (rest : List ℕ) → before (text ++ rest) ≡ remaining new (left ++ rest)
 

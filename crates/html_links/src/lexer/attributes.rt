@@ -57,7 +57,7 @@ impl Lexer {
         Ok(Ended::Nothing)
     }
 
-    /// Puts bytes to the attribute's name, where it may be kept.
+    /// Puts bytes to the attribute's name, if it may be kept.
     #[tactic(auto, using(crate::proofs::Tagging::not_kept))]
     fn push_name(&mut self, bytes: &[u8]) -> Result<(), AllocError>
         ensures same { OnOk result (self.new ≡ record self.old { attribute = self.new.attribute }) }
@@ -69,7 +69,7 @@ impl Lexer {
         Ok(())
     }
 
-    /// Whether what came of the attribute's name may be the front of one that is kept.
+    /// Whether the part of the attribute's name that came may be the front of one that is kept.
     fn may_be_kept(&self) -> bool
         ensures { result ≡ false → (name : List ℕ) → is_wanted self.now.wanted (self.now.attribute.items ++ name) ≡ false }
     {
@@ -80,14 +80,14 @@ impl Lexer {
         }
     }
 
-    /// Settles behind the name of an attribute whether it is kept.
+    /// Settles after the name of an attribute whether it is kept.
     fn settle_attribute(&mut self)
         ensures { (rest : List ℕ) → tags_with self.old self.old.attributes.items (with_attribute self.old.attribute.items (value_behind rest) attributes) ≡ after_attribute_name self.new rest }
     {
         self.keeps = self.asked_attribute();
     }
 
-    /// The attribute that is being read, where a rule asks for it.
+    /// The attribute that is being read, if a rule names it.
     fn asked_attribute(&self) -> Option<AskedName>
         ensures { MatchOption result (is_wanted self.now.wanted self.now.attribute.items ≡ false) (λ n. (self.now.attribute.items ≡ asked_name n) × (is_wanted self.now.wanted self.now.attribute.items ≡ true)) }
     {
@@ -184,7 +184,7 @@ impl Lexer {
         Ok(left)
     }
 
-    /// Puts bytes to the value, where it is kept.
+    /// Puts bytes to the value, if it is kept.
     fn push_value(&mut self, bytes: &[u8]) -> Result<(), AllocError>
         ensures same { OnOk result (self.new ≡ record self.old { value = self.new.value }) }
         ensures kept { OnOk result ((value : List ℕ) → kept_with self.old (self.new.value.items ++ value) ≡ kept_with self.old (self.old.value.items ++ (bytes.now ++ value))) }
@@ -195,7 +195,7 @@ impl Lexer {
         Ok(())
     }
 
-    /// Puts the attribute that is being read to those of the tag, where it is kept.
+    /// Puts the attribute that is being read to those of the tag, if it is kept.
     fn end_attribute(&mut self) -> Result<(), AllocError>
         ensures { OnOk result (HasRead self.old self.old.value.items self.new) }
     {

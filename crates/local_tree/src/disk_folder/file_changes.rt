@@ -44,7 +44,7 @@ fn new_room(alloc: Global, len: u64) -> io::Result<Vec<u8>> {
     Ok(room)
 }
 
-// What came of reading a file that is to have so many bytes.
+// The result of reading a file that is to have so many bytes.
 #[derive(Clone, Copy)]
 enum Reading {
     // It has them, and was changed at this time, if the system says it.

@@ -12,7 +12,7 @@ use Rattle.rejected_links.specs.declared.reason.Reason.{Reason}
 use Rattle.rejected_links.specs.Lines.{Rejected}
 use Rattle.rejected_links.specs.Reasons.{reason_of}
 
--- why a page's edge is rejected, where these addresses were found
+-- why a page's edge is rejected, if these addresses were found
 abbrev pub rejection : Plan → List Text → Text → EdgeKind → Text → Option Reason
 rejection plan found page kind target = if list_any (bytes_eq target) found then None else option_map reason_of (first_unmet plan page kind target)
 

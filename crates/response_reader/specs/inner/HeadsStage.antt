@@ -15,7 +15,7 @@ pub record PassedInterims (before after : Option (List ℕ)) (used : ℕ) : Type
   pub bytes : Consumes before after text
   pub len : length text ≡ used
 
--- the heads were read, used bytes in all, and frame the body so; lasts says whether the last one lets its connection stand
+-- the heads were read, used bytes in all, and frame the body so; lasts says whether the last one lets its connection stay open
 pub record FramesAhead (before after : Option (List ℕ)) (head : HeadParts) (framing : Framing) (used : ℕ) (lasts : Bool) : Type 0 where
   pub text : List ℕ
   pub last : ResponseHead

@@ -53,8 +53,8 @@ pub record TakesBody (limits : Limited) (used : ℕ) (framing : Framing) (P : Li
   pub len : used + length bytes ≤ length rest + limits.response
   pub adds : P body
 
--- after heads of used bytes a body that is framed so was used, all its bytes and none behind it. What follows is free,
--- but for a body that ends with the input
+-- after heads of used bytes a body that is framed so was used, all its bytes and none after it. What follows is free,
+-- except for a body that ends with the input
 pub record TookBody (limits : Limited) (before after : Option (List ℕ)) (used : ℕ) (framing : Framing) : Type 0 where
   pub body : List ℕ
   pub text : List ℕ

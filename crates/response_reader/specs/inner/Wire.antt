@@ -20,7 +20,7 @@ abbrev pub tally : ℕ → Bool → Bool → Option (List ℕ) → Bool → ℕ 
 tally failed unfailing unerring kept lost interrupted =
     record { failed = failed; interrupted = interrupted; unfailing = unfailing; unerring = unerring; kept = kept; lost = lost }
 
--- of the calls that failed, all were interrupted reads, where base had failed before the response
+-- of the calls that failed, all were interrupted reads, given that base had failed before the response
 abbrev pub IsAllInterrupted : ℕ → Tally → Type 0
 IsAllInterrupted base t = t.failed ≡ counted base t.interrupted
 

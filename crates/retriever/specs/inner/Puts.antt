@@ -45,12 +45,12 @@ files_whole (Device whole) = whole
 abbrev pub IsHalfPutBy : {B : Type 0} → Bool → Keeping B → Kept → List B → Holding → Holding → WriteFault → Type 0
 IsHalfPutBy converts keeps kept bodies old new (Device whole) = IsHalfPutAs converts keeps kept bodies old new whole
 
--- this text is told with this status; or, if not all were changed, with the line that says so
+-- this text is written with this status; or, if not all were changed, with the line that says so
 abbrev pub IsPutTold : (List ℕ → ℕ → Type 0) → Bool → List ℕ × ℕ → Type 0
 IsPutTold IsTold true (text, wanted) = IsTold text wanted
 IsPutTold IsTold false (text, wanted) = IsTold (text ++ unchanged_line) 3
 
--- these files were put, with links changed or not, and then it was told; or a put failed
+-- these files were put, with links changed or not, and then it was written; or a put failed
 abbrev pub IsPutAndTold : {B : Type 0} → Bool → Keeping B → (List ℕ → ℕ → Type 0) → Kept → List B → List ℕ × ℕ → Holding → Holding → Type 0
 IsPutAndTold converts keeps IsTold kept bodies (text, wanted) old new =
     ((all : Bool) × IsPutAs converts all keeps kept bodies old new × (new.failed ≡ old.failed) × IsPutTold IsTold all (text, wanted))
@@ -60,7 +60,7 @@ IsPutAndTold converts keeps IsTold kept bodies (text, wanted) old new =
 abbrev pub harvest_text : {B : Type 0} → Bool → Harvested B → List (List ℕ) → List ℕ
 harvest_text is_shown h names = trace_text (shown_of is_shown h.trace) ++ report_text (harvest_lines_of h names)
 
--- what is put and told of a harvest that was read: its kept pages and its report; or there is no memory for it, and nothing is put
+-- what is put and written of a harvest that was read: its kept pages and its report; or there is no memory for it, and nothing is put
 abbrev pub IsHarvestPut : {B : Type 0} → Bool → Keeping B → (List ℕ → ℕ → Type 0) → PageNames → Bool → Harvested B → Holding → Holding → Type 0
 IsHarvestPut converts keeps IsTold naming is_shown h old new =
     ((new ≡ old) × IsTold (codes "stopped memory\n") 1)

@@ -3,7 +3,7 @@ use Rattle.std.specs.Prelude.{ℕ, ◌+◌, Bool, List, [], ◌∷◌, ◌++◌,
 use Rattle.std.specs.Borrow.{Bor}
 use Rattle.robots_rules.specs.Octets.{escape_if, escaped_octet, normal}
 
--- the text is empty, or its first octet stands for itself
+-- the text is empty, or its first octet means itself
 abbrev pub KeepsFirst : (ℕ → Bool) → List ℕ → Type 0
 KeepsFirst must_escape [] = ⊤
 KeepsFirst must_escape (a ∷ rest) = normal must_escape (a ∷ rest) ≡ escape_if (must_escape a) a ++ normal must_escape rest

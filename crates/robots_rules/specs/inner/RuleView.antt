@@ -1,4 +1,4 @@
--- What the code's own form of a rule stands for.
+-- What the code's own form of a rule represents.
 use Rattle.std.specs.Prelude.{◌≡◌, ℕ, Bool, List, [], ◌∷◌, ◌++◌, if◌then◌else◌, Vec}
 use Rattle.robots_rules.specs.Access.{RuleValue}
 use Rattle.robots_rules.specs.Patterns.{ends_text, front, matching_parts}
@@ -12,6 +12,6 @@ pub record AreParts (ends : Bool) (parts : List ℕ) : Type 0 where
   pub ending : ends_text (pattern_with ends parts) ≡ ends
   pub whole : matching_parts (pattern_with ends parts) ≡ parts
 
--- the rule that a key tells
+-- the rule of a key
 abbrev pub rule_by : {Z : Type 0} → Bool × Vec ℕ Z → RuleValue
 rule_by key = record { allows = key.0; pattern = key.1.items }

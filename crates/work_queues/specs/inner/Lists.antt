@@ -3,7 +3,7 @@ use Rattle.std.specs.Prelude.{◌<◌, ℕ, Bool, cond, vec_len, vec_capacity}
 use Rattle.work_queues.specs.inner.Queues.{HostHasRoom}
 use Rattle.work_queues.specs.declared.lists.Lists.{Lists}
 
--- one where it is so
+-- one if it is so
 abbrev pub one : Bool → ℕ
 one b = cond b 1 0
 

@@ -2,7 +2,7 @@ use Rattle.std.proofs.Common.{◌≡◌, ◌≤◌, ◌-◌, ◌++◌, length, t
 use Rattle.entry_lines.specs.Lines.{text, recovered, lines_from}
 use Rattle.entry_lines.proofs.lines.whole_len.Given as goal
 
--- the whole lines so far, and those of the rest behind what is begun
+-- the whole lines so far, and those of the rest after what is begun
 abbrev pub invariant-loop-i : goal.invariant-loop-i
 invariant-loop-i l = record {
   within : l.i ≤ length l.bytes;

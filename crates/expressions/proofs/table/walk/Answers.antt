@@ -1,4 +1,4 @@
--- Each row has the set of the place before, or tells that a match begins.
+-- Each row has the set of the place before, or says that a match begins.
 use Rattle.std.proofs.Common.{◌≡◌, ◌+◌, ◌-◌, ◌<◌, ◌∙◌, length, slice_index, sym, ap, subst, arith}
 use Rattle.std.proofs.lemmas.Option.{slice_get-get_or}
 use Rattle.expressions.specs.inner.Accepting.{AreFlags, begins_from}

@@ -1,4 +1,4 @@
--- A binary search by the address finds it just where it is among them.
+-- A binary search by the address finds it exactly if it is among them.
 use Rattle.std.proofs.Common.{rules, ◌∙◌}
 use Rattle.std.specs.Cmp.Lexicographic.{slice_cmp}
 use Rattle.std.specs.Ordering.{nat_cmp}

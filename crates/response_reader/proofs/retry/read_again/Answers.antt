@@ -1,4 +1,4 @@
--- A read that was made again where it was interrupted goes on from the one before.
+-- A read that was made again when it was interrupted goes on from the one before.
 use Rattle.std.proofs.Common.{◌∙◌, refl}
 use Rattle.response_reader.proofs.WireLemmas.{keeps_consumes, keeps_same, keeps_trans}
 use Rattle.response_reader.proofs.retry.read_again.Goals as goal

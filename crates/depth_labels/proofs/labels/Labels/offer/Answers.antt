@@ -1,4 +1,4 @@
--- An offer is one by number where the address has one, and else a new address goes last.
+-- An offer is one by number if the address has one, and else a new address goes last.
 use Rattle.std.proofs.Common.{◌≡◌, refl, sym, ap, ◌∙◌}
 use Rattle.depth_labels.specs.Depths.{Table, depth_at, after_offer}
 use Rattle.depth_labels.specs.declared.labels.LabelFault.TheVariants.{Full}

@@ -1,4 +1,4 @@
--- What a file has taken isn't told.
+-- What a file has taken isn't known.
 use Rattle.std.proofs.Common.{[], None, refl}
 use Rattle.std.proofs.KnownBytes.{Appends-nil}
 use Rattle.host_system.proofs.rejected_file.RejectedFileRejectedLog.take.Goals as goal

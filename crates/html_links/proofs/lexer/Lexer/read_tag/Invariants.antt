@@ -1,4 +1,4 @@
--- What is left comes to what the whole text comes to: no tag has ended yet.
+-- What is left gives what the whole text gives: no tag has ended yet.
 use Rattle.std.proofs.Common.{◌≡◌, length}
 use Rattle.html_links.specs.Lexing.{remaining}
 use Rattle.html_links.proofs.lexer.Lexer.read_tag.Given as goal

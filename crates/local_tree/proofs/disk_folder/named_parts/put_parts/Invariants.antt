@@ -1,4 +1,4 @@
--- The files so far are whole but for lost ones.
+-- The files so far are whole, except lost ones.
 use Rattle.local_tree.proofs.PartLaws.{AreLost}
 use Rattle.local_tree.proofs.disk_folder.named_parts.put_parts.Given as goal
 

@@ -1,4 +1,4 @@
--- A put that was refused changed no file, whether it was to fail or memory was wanting.
+-- A put that was refused changed no file, whether it was to fail or memory ran out.
 use Rattle.std.proofs.Common.{◌≡◌, ◌+◌, ◌-◌, ◌^◌, min, false, refl, sym, ap, ◌∙◌, arith}
 use Rattle.std.specs.Result.{is_ok}
 use Rattle.local_tree.specs.MemoryFolders.{Kept, file_in}

@@ -1,4 +1,4 @@
--- A front of a piece, behind the pieces before it, is a front of the text.
+-- A front of a piece, after the pieces before it, is a front of the text.
 use Rattle.std.proofs.Common.{◌≡◌, ◌∙◌, ℕ, ◌+◌, ◌<◌, List, ◌∷◌, ◌++◌, Option, flat_map, length, get_or, take, drop, sym, ap, subst, append_assoc, arith}
 use Rattle.std.specs.Io.KnownBytes.{Appends}
 use Rattle.std.proofs.KnownBytes.{Appends-trans}

@@ -1,4 +1,4 @@
--- The origin isn't noted, so it is those that stand that one enters.
+-- The origin isn't noted, so one enters the open ones.
 use Rattle.std.proofs.Common.{◌∙◌}
 use Rattle.std.proofs.lemmas.Result.{IfOk-weaker}
 use Rattle.tcp_connect.proofs.PooledLaws.{enters_known}

@@ -1,4 +1,4 @@
--- The origin isn't noted, so it is among those that stand that it is put down.
+-- The origin isn't noted, so it is put down among the open ones.
 use Rattle.tcp_connect.proofs.PooledLaws.{puts_known}
 use Rattle.tcp_connect.proofs.kept.Pooled.put.Goals as goal
 

@@ -1,4 +1,4 @@
--- The origin isn't noted, so it is those that stand of which one is taken.
+-- The origin isn't noted, so it is taken from the open ones.
 use Rattle.tcp_connect.proofs.PooledLaws.{takes_known}
 use Rattle.tcp_connect.proofs.kept.Pooled.take.Goals as goal
 

@@ -4,7 +4,7 @@ use Rattle.tcp_connect.specs.Standing.{Stand, Pool, IsStandPool, waits_for}
 use Rattle.tcp_connect.proofs.StandingLaws.{IsStandPool-set}
 use Rattle.tcp_connect.proofs.standing.Standing.take.Goals as goal
 
--- what stands where one was taken has its number
+-- what is where one was taken has its number
 IsStandPool-take : {W : Type 0} (stands : List (Stand W)) (entered at : ℕ) (stand taken left : Stand W) → IsStandPool (record { stands = stands; entered = entered })
     → slice_get stands at ≡ Some stand → taken ≡ stand → left ≡ record taken { waiting = None } → IsStandPool (record { stands = slice_set stands at left; entered = entered })
 IsStandPool-take stands entered at stand taken left was there same after =
