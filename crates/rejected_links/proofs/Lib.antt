@@ -3,3 +3,4 @@ pub mod LineOrder
 pub mod LineLaws
 pub mod PathLaws
 pub mod FoundLaws
+pub mod LogLaws

@@ -9,10 +9,10 @@ use Rattle.std.proofs.lemmas.List.Sorted.{Contains-permutation, IsPermutation-sy
 use Rattle.std.proofs.lemmas.List.{length-map, get_or-map, take_more}
 use Rattle.std.proofs.lemmas.List.Elements.{filter_map-append, Contains-append_left, Contains-append_right, Contains-append_cases}
 
-contains_tail : {A : Type 0} (x y : A) (xs : List A) → Contains xs y → Contains (x ∷ xs) y
+pub contains_tail : {A : Type 0} (x y : A) (xs : List A) → Contains xs y → Contains (x ∷ xs) y
 contains_tail x y xs (k, lt, e) = (suc k, omega arith, e)
 
-contains_cases : {A : Type 0} (x y : A) (xs : List A) → Contains (x ∷ xs) y → (x ≡ y) ⊎ Contains xs y
+pub contains_cases : {A : Type 0} (x y : A) (xs : List A) → Contains (x ∷ xs) y → (x ≡ y) ⊎ Contains xs y
 contains_cases x y xs (zero, lt, e) = inl e
 contains_cases x y xs (suc k, lt, e) = inr (k, omega arith, e)
 
@@ -85,7 +85,7 @@ from_joined f (x ∷ xs) y among =
 
 -- ---- sorted, each once
 
--- what elements say stays if they are put in another order and each is kept once, where those that count as the same say the same
+-- what elements say stays if they are put in another order and each is kept once, if those that count as the same say the same
 pub kept_once : {X Y : Type 0} (f : X → Y) {E : X → X → Bool} → IsEquivalence E → ((x z : X) → E x z ≡ true → f x ≡ f z) → (xs sorted kept : List X) → IsPermutation xs sorted → kept ≡ dedup E sorted
     → (y : Y) → Contains (map f kept) y ↔ Contains (map f xs) y
 kept_once {X} {Y} f {E} equal same xs sorted kept moved is y = (there, back)
