@@ -2,6 +2,7 @@
 ghost use Rattle.std.specs.Prelude.{◌≡◌, length};
 
 use crate::early_run::EarlyRun;
+use crate::index_run::IndexRun;
 use crate::part_threads::PartThreads;
 use crate::shared_failures::SharedFailures;
 use address::Address;
@@ -34,6 +35,7 @@ pub struct Disk<'a, R: Net + Files + Wait> {
     pub(crate) parts: &'a PartsDir<R::File>,
     pub(crate) alloc: Global,
     pub(crate) early: &'a EarlyRun,
+    pub(crate) index: &'a IndexRun<R::File>,
     pub(crate) failures: &'a SharedFailures,
     // Whether bodies are kept, as they came, beside files whose links change.
     pub(crate) keeps_originals: bool,
@@ -50,6 +52,7 @@ impl<'a, R: Net + Files + Wait> Drop for Disk<'a, R> {
             parts: _parts,
             alloc: _alloc,
             early: _early,
+            index: _index,
             failures: _failures,
             keeps_originals: _keeps_originals,
         } = self;
@@ -149,6 +152,16 @@ where
         }
     }
 
+    // Has files of earlier runs give way to these names. What stays is in the way of a file.
+    fn make_way(&self, names: &[String], harvest: &Harvest<Part>) {
+        let _ = self.index.make_way(self.rt, self.failures, names, harvest);
+    }
+
+    // Notes for the index that all these pages were put.
+    fn note_put(&self, names: &[String], harvest: &Harvest<Part>) {
+        let _ = self.index.note_put(self.rt, names, harvest);
+    }
+
     // Keeps why the file of this name couldn't be put, whose bytes were to be this part: it was lost, or it got no name.
     fn note_part(&self, name: &str, part: &Part) {
         match part.standing {
@@ -246,7 +259,12 @@ where
     fn put_harvest(&mut self, names: &[String], harvest: &Harvest<Part>) -> Result<(), WriteFault> {
         self.take_parts();
         self.take_back(names, harvest);
-        put_parts(self, names, harvest)
+        self.make_way(names, harvest);
+        let put = put_parts(self, names, harvest);
+        if put.is_ok() {
+            self.note_put(names, harvest);
+        }
+        put
     }
 
     fn put_changed_kept<C: BodyChange>(
@@ -277,11 +295,15 @@ where
     ) -> Result<bool, WriteFault> {
         self.take_parts();
         self.take_back(names, harvest);
+        self.make_way(names, harvest);
         if self.keeps_originals {
             self.inner.keep_originals(names);
         }
         let put = put_changed_parts(self, names, harvest, change);
         self.inner.end_puts();
+        if put.is_ok() {
+            self.note_put(names, harvest);
+        }
         put
     }
 }

@@ -2,12 +2,14 @@
 use crate::asking::Asking;
 use crate::disk::{Disk, Saved};
 use crate::early_run::EarlyRun;
+use crate::index_run::{BeginFault, IndexRun};
 use crate::part_threads::PartThreads;
 use crate::parts_asking::PartsAsking;
 use crate::shared_failures::SharedFailures;
 use early_names::EarlyRules;
 use live_system::{FetcherSettings, HoldFault, System};
 use local_tree::DiskFolder;
+use options::Order;
 use part_keeper::{Part, PartsDir};
 use progress::Progress;
 use record_journal::{HoldFault as Held, Journaled, Pen, SavedFile, Saving};
@@ -35,6 +37,7 @@ pub struct Network<'a, R: Net + Wait + Files + Clock + Eprint> {
     crew: &'a PartThreads<'a, R>,
     parts: &'a PartsDir<R::File>,
     early: &'a EarlyRun,
+    index: &'a IndexRun<R::File>,
     failures: &'a SharedFailures,
     jar: Option<Jar>,
 }
@@ -56,6 +59,7 @@ impl<'a, R: Net + Wait + Files + Clock + Eprint> Network<'a, R> {
         crew: &'a PartThreads<'a, R>,
         parts: &'a PartsDir<R::File>,
         early: &'a EarlyRun,
+        index: &'a IndexRun<R::File>,
         failures: &'a SharedFailures,
         jar: Option<Jar>,
     ) -> Network<'a, R> {
@@ -69,6 +73,7 @@ impl<'a, R: Net + Wait + Files + Clock + Eprint> Network<'a, R> {
             crew,
             parts,
             early,
+            index,
             failures,
             jar,
         }
@@ -145,12 +150,21 @@ where
         let fetcher = self.over_tcp(settings)?;
         let kept = self.early.rules(self.rt);
         Ok(PartsAsking {
-            inner: PartsOverTcp::new(self.rt, self.alloc, fetcher, self.kept, self.parts, kept),
+            inner: PartsOverTcp::new(
+                self.rt,
+                self.alloc,
+                fetcher,
+                self.kept,
+                self.parts,
+                kept,
+                self.index.earlier(self.rt),
+            ),
             rt: self.rt,
             alloc: self.alloc,
             failures: self.failures,
             parts: self.parts,
             early: self.early,
+            index: self.index,
             rules: self.early.rules(self.rt),
             folder: None,
         })
@@ -190,6 +204,22 @@ where
         self.early.begin(self.rt, rules)
     }
 
+    fn begin_index(&self, order: &Order) -> Result<(), HoldFault> {
+        match self.index.begin(self.rt, self.failures, order) {
+            Ok(()) => Ok(()),
+            Err(BeginFault::Unfit) => Err(HoldFault::Refused),
+            Err(BeginFault::Memory) => Err(HoldFault::Memory),
+        }
+    }
+
+    fn end_index(&self, is_whole: bool) {
+        let own = self.parts.path(self.rt);
+        if let Ok(own) = own {
+            self.index
+                .end(self.rt, self.failures, own.as_str(), is_whole);
+        }
+    }
+
     fn fetcher(&self, settings: FetcherSettings) -> Result<PartsAsking<'a, R>, AllocError> {
         self.parts_asking(settings)
     }
@@ -217,6 +247,7 @@ where
                 parts: self.parts,
                 alloc: self.alloc,
                 early: self.early,
+                index: self.index,
                 failures: self.failures,
                 keeps_originals,
             }),

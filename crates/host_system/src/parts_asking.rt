@@ -1,5 +1,6 @@
 //! What asks the site for one worker and has bodies kept in parts while they arrive.
 use crate::early_run::EarlyRun;
+use crate::index_run::IndexRun;
 use crate::shared_failures::SharedFailures;
 use address::{Address, Origin};
 use early_names::{EarlyRules, is_early};
@@ -13,7 +14,7 @@ use std::net::Net;
 use std::sync::{Arc, Wait};
 use std::time::Clock;
 use streams::{Close, Lock};
-use tcp_fetcher::PartsOverTcp;
+use tcp_fetcher::{PageNote, PartsOverTcp};
 
 /// Asks over TCP, has bodies kept in parts, of which it names those that may be named early, shows on the terminal what results,
 /// and keeps why a connection was lost.
@@ -27,6 +28,7 @@ where
     pub(crate) failures: &'a SharedFailures,
     pub(crate) parts: &'a PartsDir<R::File>,
     pub(crate) early: &'a EarlyRun,
+    pub(crate) index: &'a IndexRun<R::File>,
     pub(crate) rules: Option<Arc<EarlyRules>>,
     // None before a page was named.
     pub(crate) folder: Option<DiskFolder<'a, R>>,
@@ -45,6 +47,7 @@ where
             failures: _failures,
             parts: _parts,
             early: _early,
+            index: _index,
             rules: _rules,
             folder: _folder,
         } = self;
@@ -68,7 +71,10 @@ where
         let Ok(name) = rules.name_of(self.alloc, part.kind, at) else {
             return None;
         };
-        if is_early(name.as_str()) && self.early.claim(self.rt, name.as_str()) {
+        if !is_early(name.as_str()) || !self.index.may_name(self.rt, at, name.as_str()) {
+            return None;
+        }
+        if self.early.claim(self.rt, name.as_str()) {
             Some(name)
         } else {
             None
@@ -108,18 +114,22 @@ where
         is_named
     }
 
-    // A page's part, which has its name from then on if nothing is in its way.
-    fn named(&mut self, at: &Address, part: Part) -> Part
+    // A page's part, which has its name from then on if nothing is in its way, and what was noted of the page.
+    fn named(&mut self, at: &Address, part: Part, note: Option<PageNote>) -> Part
         ensures kind { result.kind ≡ part.kind }
         ensures len { result.len ≡ part.len }
+        ensures received { result.is_received ≡ part.is_received }
         ensures inner { self.new.inner ≡ self.old.inner }
     {
         let Some(name) = self.claim(at, &part) else {
+            self.note_kept(note, None);
             return part;
         };
         if !self.give_name(name.as_str(), &part) {
+            self.note_kept(note, None);
             return part;
         }
+        self.note_kept(note, Some(name.as_str()));
         Part {
             standing: Standing::Named,
             ..part
@@ -131,6 +141,20 @@ where
         if let Some(kind) = self.inner.loss() {
             self.failures.lose(self.rt, kind, at.try_clone());
         }
+    }
+
+    // What is noted of a page and its answer, the last one. If there is no memory for it, the next run requests the page, too.
+    fn note_of(&self, at: &Address, answer: &Answer<Part>) -> Option<PageNote> {
+        self.inner.note(at, answer).unwrap_or(None)
+    }
+
+    // Notes a page that has this name early, if it has one.
+    fn note_kept(&self, note: Option<PageNote>, name: Option<&str>) {
+        let (Some(note), Ok(own)) = (note, self.parts.path(self.rt)) else {
+            return;
+        };
+        self.index
+            .note(self.rt, self.failures, own.as_str(), note, name);
     }
 
     // Keeps that the last connection was lost, which was to request this origin's robots file.
@@ -160,9 +184,11 @@ where
     ghost log = { λ f. f.inner.asks };
 
     fn ask(&mut self, at: &Address) -> Result<Answer<Part>, AllocError> {
-        let Answer { outcome, body } = self.inner.ask(at)?;
+        let answer = self.inner.ask(at)?;
         self.note_page(at);
-        let body = self.named(at, body);
+        let note = self.note_of(at, &answer);
+        let Answer { outcome, body } = answer;
+        let body = self.named(at, body, note);
         Ok(Answer { outcome, body })
     }
 

@@ -1,5 +1,5 @@
 //! What a live run has of the system.
-ghost use Rattle.std.specs.Prelude.{◌≡◌, ℕ, List, IfOk, Err, ⊤};
+ghost use Rattle.std.specs.Prelude.{◌≡◌, ℕ, List, IfOk, Err, ⊤, true};
 ghost use Rattle.live_system.specs.Settings.{Settings};
 
 use answer_notes::Recording;
@@ -7,6 +7,7 @@ use early_names::EarlyRules;
 use fetcher::Fetcher;
 use html_links::LinkRules;
 use local_tree::{HasKind, Shelf};
+use options::Order;
 use pacing::{Manner, Retries};
 use requests::{Proxies, Sending};
 use std::alloc::{AllocError, Global};
@@ -15,10 +16,10 @@ use std::marker::Model;
 use std::sync::atomic::AtomicUsize;
 use streams::ReadFault;
 
-/// Why a run may not save at a path.
+/// Why a run may not save at a path, or go on from what is in a folder.
 #[derive(Clone, Copy)]
 pub enum HoldFault {
-    /// Another run saves there, or answers that an earlier one left there would be lost.
+    /// Another run saves there, or answers that an earlier one left there would be lost; or what is there can't be gone on with.
     Refused,
     /// Memory ran out.
     Memory,
@@ -84,6 +85,9 @@ pub trait System {
     // The bytes that the file at a path may have.
     ghost holds: { Self → List ℕ → List ℕ → Type 0 };
 
+    // The paths of the folders in which what was left can't be gone on with.
+    ghost discontinues: { Self → List ℕ → Type 0 } = { λ _ _. ⊤ };
+
     // The paths at which nothing may be saved.
     ghost refuses: { Self → List ℕ → Type 0 } = { λ _ _. ⊤ };
 
@@ -94,6 +98,18 @@ pub trait System {
     fn begin_naming(&self, _rules: EarlyRules) -> Result<(), AllocError> {
         Ok(())
     }
+
+    /// A run of this order begins, before anything is requested: what earlier ones left in its folder is taken as it says, and what it
+    /// does so with is noted for later ones. Why a run isn't gone on with is reported to a person.
+    fn begin_index(&self, _order: &Order) -> Result<(), HoldFault>
+        ensures { result ≡ Err HoldFault.Refused → (_order.now.upkeep.continues ≡ true) × discontinues self.now _order.now.prefix }
+    {
+        Ok(())
+    }
+
+    /// The run has ended, with all that was to be retrieved if that is said: files of pages that are gone are removed then, if its order
+    /// says so. Failures are reported to a person.
+    fn end_index(&self, _is_whole: bool) {}
 
     /// A fetcher for one more worker, with these settings. The error is that memory ran out.
     fn fetcher(&self, settings: FetcherSettings) -> Result<Self::Fetcher, AllocError>

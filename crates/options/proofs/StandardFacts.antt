@@ -34,7 +34,7 @@ abbrev forms_of : Row Text → Text × Text × Option Text
 forms_of row = (row.short, row.name, value_name row.kind)
 
 -- docs/OPTIONS.md
-forms : map forms_of table ≡ (codes "r", codes "recursive", None) ∷ (codes "l", codes "level", Some (codes "N"))
+forms : map forms_of table ≡ (codes "r", codes "recursive", None) ∷ (codes "l", codes "level", Some (codes "N")) ∷ (codes "m", codes "mirror", None)
     ∷ (codes "p", codes "page-requisites", None) ∷ ([], codes "span-requisites", None) ∷ (codes "n", codes "n", Some (codes "p"))
     ∷ (codes "np", codes "no-parent", None) ∷ (codes "H", codes "span-hosts", None) ∷ (codes "D", codes "domains", Some (codes "LIST"))
     ∷ ([], codes "exclude-domains", Some (codes "LIST")) ∷ (codes "I", codes "include-directories", Some (codes "LIST"))
@@ -60,6 +60,7 @@ forms : map forms_of table ≡ (codes "r", codes "recursive", None) ∷ (codes "
     ∷ (codes "x", codes "force-directories", None) ∷ (codes "nH", codes "no-host-directories", None) ∷ ([], codes "protocol-directories", None)
     ∷ ([], codes "cut-dirs", Some (codes "N")) ∷ ([], codes "default-page", Some (codes "NAME")) ∷ (codes "E", codes "adjust-extension", None)
     ∷ ([], codes "html-extension", None) ∷ ([], codes "restrict-file-names", Some (codes "MODES")) ∷ (codes "k", codes "convert-links", None) ∷ (codes "K", codes "backup-converted", None)
+    ∷ (codes "N", codes "timestamping", None) ∷ (codes "nc", codes "no-clobber", None) ∷ (codes "c", codes "continue", None) ∷ ([], codes "delete-gone", None)
     ∷ ([], codes "no-use-server-timestamps", None) ∷ (codes "q", codes "quiet", None)
     ∷ (codes "o", codes "output-file", Some (codes "FILE")) ∷ (codes "a", codes "append-output", Some (codes "FILE")) ∷ ([], codes "rejected-log", Some (codes "FILE")) ∷ ([], codes "trace", None)
     ∷ ([], codes "save", Some (codes "FILE")) ∷ (codes "nv", codes "no-verbose", None) ∷ ([], codes "no-cookies", None) ∷ ([], codes "no-hsts", None)

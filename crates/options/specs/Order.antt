@@ -23,6 +23,7 @@ use Rattle.options.specs.declared.order.Source.{Source}
 use Rattle.options.specs.declared.order.Source.TheVariants.{Map, Recorded, Live}
 use Rattle.options.specs.declared.order.Log.{Log}
 use Rattle.options.specs.declared.order.Order.{Order}
+use Rattle.options.specs.declared.order.Upkeep.{Upkeep}
 use Rattle.options.specs.declared.fault.LineFault.{LineFault}
 use Rattle.options.specs.declared.fault.LineFault.TheVariants as fault
 use Rattle.options.specs.Asked.{refusal_of, without_kind, words_refused}
@@ -51,9 +52,20 @@ abbrev pub is_plain_value : Option Text → Bool
 is_plain_value None = true
 is_plain_value (Some value) = bytes_eq value (codes "none")
 
--- `--compression` and `--regex-type` have values that they may have
+-- what becomes of what earlier runs left
+unfoldable pub upkeep_of : List Row → Upkeep
+upkeep_of found =
+    record { timestamps = is_set (codes "timestamping") found; skips = is_set (codes "no-clobber") found; continues = is_set (codes "continue") found; deletes_gone = is_set (codes "delete-gone") found }
+
+-- it can all be so, perhaps with a record: pages aren't both requested and not, no record is resumed or saved beside, and what is gone is known
+abbrev pub agrees : Bool → Upkeep → Bool
+agrees has_record u = not (u.timestamps && u.skips) && not (has_record && (u.timestamps || u.skips || u.continues)) && (not u.deletes_gone || u.timestamps || u.skips)
+
+-- `--compression` and `--regex-type` have values that they may have, and what becomes of what earlier runs left can be so
 unfoldable pub are_good : List Row → Bool
-are_good found = is_plain_value (first_of (codes "compression") found) && is_type (first_of (codes "regex-type") found)
+are_good found =
+    is_plain_value (first_of (codes "compression") found) && is_type (first_of (codes "regex-type") found)
+    && agrees (is_some (first_of (codes "resume") found) || is_some (first_of (codes "save") found)) (upkeep_of found)
 
 -- ---- which links of pages are taken
 
@@ -102,6 +114,7 @@ pub record Ordered : Type 0 where
   pub converts : Bool
   pub backs_up : Bool
   pub takes_times : Bool
+  pub upkeep : Upkeep
   pub fields : Sent
   pub manner : Mannered
   pub retries : Retried
@@ -355,6 +368,7 @@ ordered found counts proxies names fields manner retries level patterns director
   converts = is_set (codes "convert-links") found;
   backs_up = is_set (codes "backup-converted") found;
   takes_times = not (is_set (codes "no-use-server-timestamps") found);
+  upkeep = upkeep_of found;
   fields = fields;
   manner = manner;
   retries = retries;
@@ -515,6 +529,7 @@ ordered_by order = record {
   converts = order.converts;
   backs_up = order.backs_up;
   takes_times = order.takes_times;
+  upkeep = order.upkeep;
   fields = order.fields;
   manner = mannered order.manner;
   retries = retries_by order.retries;

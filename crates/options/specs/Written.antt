@@ -29,9 +29,23 @@ added between adds (Some earlier) value =
 abbrev pub says_also : Text → Text → Bool
 says_also said name = bytes_eq said name || (bytes_eq said (codes "append-output") && bytes_eq name (codes "output-file"))
 
+-- what `--mirror` says of the option of this name: it is `-r -l inf -N`
+abbrev pub mirrored : Text → Option Text
+mirrored name =
+    if bytes_eq name (codes "recursive") || bytes_eq name (codes "timestamping") then Some (codes "on") else (if bytes_eq name (codes "level") then Some (codes "inf") else None)
+
+-- what an option with this value says of that of this name, if anything
+abbrev pub said_of : Text → Text → Text → Option Text
+said_of said value name =
+    if says_also said name then Some value else (if bytes_eq said (codes "mirror") && bytes_eq value (codes "on") then mirrored name else None)
+
+abbrev pub value_with : Text → Bool → Option Text → Option Text → Option Text
+value_with name adds before None = before
+value_with name adds before (Some value) = Some (added (joint name) adds before value)
+
 -- the value of an option of this name after what was said before
 abbrev pub value_after : Text → Bool → Option Text → Saying Text → Option Text
-value_after name adds before (saying.Says said value) = if says_also said name then Some (added (joint name) adds before value) else before
+value_after name adds before (saying.Says said value) = value_with name adds before (said_of said value name)
 value_after name adds before other = before
 
 abbrev pub value_from : Text → Bool → Option Text → List (Saying Text) → Option Text

@@ -35,6 +35,6 @@ pub use crate::fault::LineFault;
 pub use crate::help::{VERSION, help_text};
 pub use crate::listed::{StartList, are_quiet, cookie_file, start_list};
 pub use crate::naming::PageNames;
-pub use crate::order::{FilePath, Log, MAX_WORKERS, Order, Prefix, Source};
+pub use crate::order::{FilePath, Log, MAX_WORKERS, Order, Prefix, Source, Upkeep};
 pub use crate::read::read_order;
 pub use crate::start::with_scheme;

@@ -111,6 +111,19 @@ pub struct Log {
     pub appends: bool,
 }
 
+/// What becomes of what earlier runs left in the folder.
+#[derive(Clone, Copy, PartialEq, Eq, Debug)]
+pub struct Upkeep {
+    /// Whether their pages are requested only to see if they changed.
+    pub timestamps: bool,
+    /// Whether they aren't requested at all.
+    pub skips: bool,
+    /// Whether a run that was stopped is gone on with.
+    pub continues: bool,
+    /// Whether files of pages that are gone are removed.
+    pub deletes_gone: bool,
+}
+
 /// What to retrieve, from where, and what to do with it.
 #[derive(Drop)]
 pub struct Order {
@@ -144,6 +157,8 @@ pub struct Order {
     pub backs_up: bool,
     /// Whether a file has the time that its page's `Last-Modified` says.
     pub takes_times: bool,
+    /// What becomes of what earlier runs left.
+    pub upkeep: Upkeep,
     /// What requests say besides their addresses.
     pub fields: Fields,
     /// How servers are treated.
@@ -282,6 +297,7 @@ impl Order {
             converts,
             backs_up,
             takes_times,
+            upkeep,
             fields,
             manner,
             retries,
@@ -307,6 +323,7 @@ impl Order {
             converts,
             backs_up,
             takes_times,
+            upkeep,
             fields,
             manner,
             retries,
@@ -338,6 +355,7 @@ impl Order {
             converts,
             backs_up,
             takes_times,
+            upkeep,
             fields,
             manner,
             retries,
@@ -363,6 +381,7 @@ impl Order {
             converts,
             backs_up,
             takes_times,
+            upkeep,
             fields,
             manner,
             retries,

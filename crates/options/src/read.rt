@@ -1,5 +1,5 @@
 //! Words are read as an order, or refused by the lowest fault.
-ghost use Rattle.std.specs.Prelude.{◌≡◌, ◌≢◌, ◌⊎◌, ℕ, List, true, ◌<◌, ◌≤◌, codes, drop, false, not, is_none, option_map, if◌then◌else◌, Some, None, Ok, Err, map, string_bytes, IfErr, IfOk, IfSome, MatchOption, MatchResult};
+ghost use Rattle.std.specs.Prelude.{◌≡◌, ◌≢◌, ◌⊎◌, ℕ, List, true, ◌<◌, ◌≤◌, codes, drop, false, not, is_none, is_some, ◌||◌, option_map, if◌then◌else◌, Some, None, Ok, Err, map, string_bytes, IfErr, IfOk, IfSome, MatchOption, MatchResult};
 ghost use Rattle.clap.specs.Words.{found_of, rows_of, first_of, kind_of};
 ghost use Rattle.address.specs.Address as address;
 ghost use Rattle.address.specs.Address.{is_robots_file, read_address};
@@ -16,7 +16,7 @@ ghost use Rattle.pacing.specs.Retries.{retries_by};
 ghost use Rattle.options.specs.Naming.{naming_by};
 ghost use Rattle.options.specs.Line.{rows};
 ghost use Rattle.options.specs.Sought.{IsUnsaid};
-ghost use Rattle.options.specs.Order.{AnswersOrder, AnswersRows, AnswersWords, OrdersBySayings, order_of_rows, order_of_written, order_said, are_good, is_plain_value, both, counts_of, patterns_of, directories_of, domains_of, expressions_of, fields_fault, fields_of, fields_with, logged, login_by, login_of, login_with, password_of, said_or, start_of, source_of, user_of, honours_robots, limit_within, links_of, ordered, ordered_by, folder_of, guarded, prefix_of, seeks, log_by, log_of, both_proxies, proxies_of, proxy_at, proxy_by, proxy_value, read_start, root_origin, rows_taken, taken_if, unless_empty, with_others};
+ghost use Rattle.options.specs.Order.{AnswersOrder, AnswersRows, AnswersWords, OrdersBySayings, order_of_rows, order_of_written, order_said, are_good, is_plain_value, both, counts_of, patterns_of, directories_of, domains_of, expressions_of, fields_fault, fields_of, fields_with, logged, login_by, login_of, login_with, password_of, said_or, start_of, source_of, user_of, honours_robots, limit_within, links_of, ordered, ordered_by, folder_of, guarded, prefix_of, seeks, log_by, log_of, both_proxies, proxies_of, proxy_at, proxy_by, proxy_value, read_start, root_origin, rows_taken, taken_if, unless_empty, upkeep_of, agrees, with_others};
 ghost use Rattle.options.specs.Asked.{refusal_of, without_kind, words_refused};
 ghost use Rattle.options.specs.inner.Said.{saying_in};
 ghost use Rattle.options.specs.inner.Order.{StartsAt, FailsToStart, FailsToFilter, IsNoStart, Settles, fault_of_kind, unasked};
@@ -32,7 +32,7 @@ use crate::manner::{manner, quota};
 use crate::naming::{PageNames, names};
 use crate::order::{
     DEFAULT_MAX_URLS, DEFAULT_PER_HOST, DEFAULT_WORKERS, FilePath, Log, MAX_WORKERS, Order, Prefix,
-    Source,
+    Source, Upkeep,
 };
 use crate::others::with_others;
 use crate::retries::retries;
@@ -114,16 +114,53 @@ fn is_plain_value(value: Option<&str>) -> bool
     }
 }
 
-// What is wrong with words that `clap` takes: an encoding of bodies is asked for, or a kind of expressions that isn't known.
+// What becomes of what earlier runs left.
+#[tactic(auto, unfolding(crate::specs::Order::upkeep_of))]
+fn upkeep(matches: &ArgMatches) -> Upkeep
+    ensures { result ≡ upkeep_of (rows_of (found_of matches.now)) }
+{
+    Upkeep {
+        timestamps: is_set(matches, "timestamping"),
+        skips: is_set(matches, "no-clobber"),
+        continues: is_set(matches, "continue"),
+        deletes_gone: is_set(matches, "delete-gone"),
+    }
+}
+
+// Whether a record is resumed or saved.
+fn has_record(matches: &ArgMatches) -> bool
+    ensures { result ≡ (is_some (first_of (codes "resume") (rows_of (found_of matches.now))) || is_some (first_of (codes "save") (rows_of (found_of matches.now)))) }
+{
+    given(matches, "resume").is_some() || given(matches, "save").is_some()
+}
+
+// Whether all of this can be so.
+fn agrees(has_record: bool, upkeep: Upkeep) -> bool
+    ensures { result ≡ agrees has_record upkeep }
+{
+    if upkeep.timestamps && upkeep.skips {
+        return false;
+    }
+    if has_record && (upkeep.timestamps || upkeep.skips || upkeep.continues) {
+        return false;
+    }
+    !upkeep.deletes_gone || upkeep.timestamps || upkeep.skips
+}
+
+// What is wrong with words that `clap` takes: an encoding of bodies is requested, or a kind of expressions that isn't known, or words that
+// exclude each other are there.
 #[tactic(auto, unfolding(crate::specs::Order::are_good))]
 fn word_fault(matches: &ArgMatches) -> Option<LineFault>
     ensures good { is_none result ≡ are_good (rows_of (found_of matches.now)) }
-    ensures refused { IfSome result (λ f. f ≡ words_refused) }
+    ensures refused { IfSome result (λ f. without_kind f ≡ words_refused) }
 {
-    if is_plain_value(given(matches, "compression")) && is_type(given(matches, "regex-type")) {
+    if !is_plain_value(given(matches, "compression")) || !is_type(given(matches, "regex-type")) {
+        return Some(LineFault::Words(ErrorKind::InvalidValue));
+    }
+    if agrees(has_record(matches), upkeep(matches)) {
         None
     } else {
-        Some(LineFault::Words(ErrorKind::InvalidValue))
+        Some(LineFault::Words(ErrorKind::ArgumentConflict))
     }
 }
 
@@ -802,6 +839,7 @@ fn filled(
         converts: is_set(matches, "convert-links"),
         backs_up: is_set(matches, "backup-converted"),
         takes_times: !is_set(matches, "no-use-server-timestamps"),
+        upkeep: upkeep(matches),
         fields,
         manner,
         retries,

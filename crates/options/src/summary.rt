@@ -13,7 +13,7 @@ pub(crate) struct Summary<T> {
 }
 
 // An option that isn't here isn't in the help.
-const SUMMARY: [Summary<&str>; 95] = [
+const SUMMARY: [Summary<&str>; 100] = [
     Summary {
         name: "recursive",
         says: "follow links",
@@ -21,6 +21,10 @@ const SUMMARY: [Summary<&str>; 95] = [
     Summary {
         name: "level",
         says: "at most N hops; 0 and inf are no limit",
+    },
+    Summary {
+        name: "mirror",
+        says: "-r -l inf -N: keep a mirror up to date",
     },
     Summary {
         name: "page-requisites",
@@ -309,6 +313,22 @@ const SUMMARY: [Summary<&str>; 95] = [
     Summary {
         name: "backup-converted",
         says: "keep what -k changes as it came, as NAME.orig",
+    },
+    Summary {
+        name: "timestamping",
+        says: "request earlier pages only if they changed",
+    },
+    Summary {
+        name: "no-clobber",
+        says: "request no page of an earlier run",
+    },
+    Summary {
+        name: "continue",
+        says: "go on with a run that was stopped",
+    },
+    Summary {
+        name: "delete-gone",
+        says: "with -N: remove files of pages that are gone",
     },
     Summary {
         name: "no-use-server-timestamps",

@@ -40,7 +40,7 @@ pub(crate) struct Row<T> {
 }
 
 /// The options. What each does is in `summary.rt`: a constant's proof takes time for each pair of a text and a byte in it.
-const TABLE: [Row<&str>; 96] = [
+const TABLE: [Row<&str>; 101] = [
     Row {
         short: "r",
         name: "recursive",
@@ -51,6 +51,12 @@ const TABLE: [Row<&str>; 96] = [
         short: "l",
         name: "level",
         kind: Kind::Usual("N", "5"),
+        heading: "",
+    },
+    Row {
+        short: "m",
+        name: "mirror",
+        kind: Kind::Flag,
         heading: "",
     },
     Row {
@@ -492,6 +498,30 @@ const TABLE: [Row<&str>; 96] = [
         heading: "",
     },
     Row {
+        short: "N",
+        name: "timestamping",
+        kind: Kind::Flag,
+        heading: "",
+    },
+    Row {
+        short: "nc",
+        name: "no-clobber",
+        kind: Kind::Flag,
+        heading: "",
+    },
+    Row {
+        short: "c",
+        name: "continue",
+        kind: Kind::Flag,
+        heading: "",
+    },
+    Row {
+        short: "",
+        name: "delete-gone",
+        kind: Kind::Flag,
+        heading: "",
+    },
+    Row {
         short: "",
         name: "no-use-server-timestamps",
         kind: Kind::Flag,
@@ -629,8 +659,8 @@ pub(crate) fn option_rows() -> &'static [Row<&'static str>]
 }
 
 /// The forms of Wget's options: all long ones, in the order of their letters, and the short ones that aren't among the options
-/// above. One of two letters is the first letter's, such as `nc`.
-const WGET: [&str; 248] = [
+/// above.
+const WGET: [&str; 244] = [
     "--accept",
     "--accept-regex",
     "--adjust-extension",
@@ -874,11 +904,7 @@ const WGET: [&str; 248] = [
     "-d",
     "-v",
     "-O",
-    "-nc",
-    "-c",
-    "-N",
     "-S",
-    "-m",
 ];
 
 const WGETS: &[&str] = &WGET;
@@ -899,7 +925,7 @@ pub(crate) struct Instead<T> {
 }
 
 /// What to do in place of Wget's options, if there is something. None of these forms is read.
-const INSTEAD: [Instead<&str>; 68] = [
+const INSTEAD: [Instead<&str>; 60] = [
     Instead {
         form: "--background",
         advice: "& of the shell, or nohup",
@@ -937,32 +963,8 @@ const INSTEAD: [Instead<&str>; 68] = [
         advice: "-P DIR says where files are put",
     },
     Instead {
-        form: "--no-clobber",
-        advice: "--save FILE, then --resume FILE: a later run requests what is missing",
-    },
-    Instead {
-        form: "-nc",
-        advice: "--save FILE, then --resume FILE: a later run requests what is missing",
-    },
-    Instead {
-        form: "--continue",
-        advice: "--save FILE, then --resume FILE: a later run requests what is missing",
-    },
-    Instead {
-        form: "-c",
-        advice: "--save FILE, then --resume FILE: a later run requests what is missing",
-    },
-    Instead {
-        form: "--timestamping",
-        advice: "--save FILE, then --resume FILE: a later run requests what is missing",
-    },
-    Instead {
-        form: "-N",
-        advice: "--save FILE, then --resume FILE: a later run requests what is missing",
-    },
-    Instead {
         form: "--no-if-modified-since",
-        advice: "it is so already",
+        advice: "no HEAD is sent: with -N each request has its condition",
     },
     Instead {
         form: "--server-response",
@@ -1164,14 +1166,6 @@ const INSTEAD: [Instead<&str>; 68] = [
         form: "--warc-tempdir",
         advice: "--save FILE writes what is received, docs/RECORDS.md",
     },
-    Instead {
-        form: "--mirror",
-        advice: "-r -l inf, and --save FILE and --resume FILE for -N",
-    },
-    Instead {
-        form: "-m",
-        advice: "-r -l inf, and --save FILE and --resume FILE for -N",
-    },
 ];
 
 const INSTEADS: &[Instead<&str>] = &INSTEAD;
@@ -1184,15 +1178,17 @@ pub(crate) fn insteads() -> &'static [Instead<&'static str>]
 }
 
 /// The long forms of options that Wget doesn't have, and of their opposites.
-const OWN: [&str; 24] = [
+const OWN: [&str; 26] = [
     "--answer-timeout",
     "--crawl-delay",
+    "--delete-gone",
     "--http-proxy",
     "--https-proxy",
     "--map",
     "--max-body",
     "--max-urls",
     "--no-crawl-delay",
+    "--no-delete-gone",
     "--no-map",
     "--no-record",
     "--no-robots",
@@ -1229,7 +1225,7 @@ pub(crate) struct Command<T> {
 }
 
 /// The commands of wgetrc whose options are here.
-const COMMANDS: [Command<&str>; 79] = [
+const COMMANDS: [Command<&str>; 83] = [
     Command {
         name: "accept",
         option: "accept",
@@ -1269,6 +1265,10 @@ const COMMANDS: [Command<&str>; 79] = [
     Command {
         name: "connecttimeout",
         option: "connect-timeout",
+    },
+    Command {
+        name: "continue",
+        option: "continue",
     },
     Command {
         name: "convertlinks",
@@ -1387,8 +1387,16 @@ const COMMANDS: [Command<&str>; 79] = [
         option: "output-file",
     },
     Command {
+        name: "mirror",
+        option: "mirror",
+    },
+    Command {
         name: "netrc",
         option: "netrc",
+    },
+    Command {
+        name: "noclobber",
+        option: "no-clobber",
     },
     Command {
         name: "noconfig",
@@ -1505,6 +1513,10 @@ const COMMANDS: [Command<&str>; 79] = [
     Command {
         name: "timeout",
         option: "timeout",
+    },
+    Command {
+        name: "timestamping",
+        option: "timestamping",
     },
     Command {
         name: "tries",

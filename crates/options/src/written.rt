@@ -1,7 +1,7 @@
 //! Words are written out: each option at most once, by its long form and with the value that counts, and the first start after `--`.
 ghost use Rattle.std.specs.Prelude.{◌≡◌, ◌++◌, IfOk, None, OnOk, codes, map, option_map, string_bytes};
 ghost use Rattle.std.specs.List.{flat_map};
-ghost use Rattle.options.specs.Written.{added, first_start, first_unread, form_word, if_any, is_list, joint, row_words, says_also, starts_in, value_from, value_words, value_of, written};
+ghost use Rattle.options.specs.Written.{added, first_start, first_unread, form_word, if_any, is_list, joint, mirrored, row_words, said_of, says_also, starts_in, value_from, value_words, value_of, written};
 ghost use Rattle.options.specs.inner.Said.{saying_in};
 ghost use Rattle.options.specs.inner.Table.{kind_in, row_in};
 
@@ -56,6 +56,32 @@ fn says_also(said: &str, name: &str) -> bool
     said == name || (said == "append-output" && name == "output-file")
 }
 
+// What the option that means several others says of that of this name.
+fn mirrored(name: &str) -> Option<&'static str>
+    ensures { option_map (λ value. value.now) result ≡ mirrored name.now }
+{
+    if name == "recursive" || name == "timestamping" {
+        return Some("on");
+    }
+    if name == "level" {
+        return Some("inf");
+    }
+    None
+}
+
+// What an option with this value says of that of this name, if anything.
+fn said_of<'a>(said: &str, value: &'a str, name: &str) -> Option<&'a str>
+    ensures { option_map (λ value. value.now) result ≡ said_of said.now value.entry.now name.now }
+{
+    if says_also(said, name) {
+        return Some(value);
+    }
+    if said == "mirror" && value == "on" {
+        return mirrored(name);
+    }
+    None
+}
+
 /// The value that counts of what is said of the option of this name.
 pub(crate) fn value_in(
     alloc: Global,
@@ -68,7 +94,7 @@ pub(crate) fn value_in(
     let mut value = None;
     for saying in said {
         if let Saying::Says(option, text) = saying {
-            if says_also(option, name) {
+            if let Some(text) = said_of(option, text, name) {
                 value = Some(added(alloc, joint(name), adds, value, text)?);
             }
         }

@@ -26,8 +26,10 @@ pub struct Part {
     pub number: u32,
     /// What the body is.
     pub kind: BodyKind,
-    /// How many bytes came.
+    /// How many bytes it has.
     pub len: u64,
+    /// Whether this run received them: not if they were read from an earlier run's file.
+    pub is_received: bool,
     /// Whether they are there.
     pub standing: Standing,
 }

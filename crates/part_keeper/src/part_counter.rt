@@ -47,6 +47,7 @@ impl Keeper for PartCounter {
             number: u32::MAX,
             kind,
             len: self.len,
+            is_received: true,
             standing: Standing::Lost,
         })
     }
@@ -57,6 +58,7 @@ impl Keeper for PartCounter {
             number: u32::MAX,
             kind: BodyKind::Other,
             len: 0,
+            is_received: true,
             standing: Standing::Absent,
         })
     }

@@ -256,6 +256,7 @@ where
             number: self.number,
             kind,
             len: self.len,
+            is_received: true,
             standing,
         };
         self.number = self.number.saturating_add(1);
@@ -271,6 +272,7 @@ where
             number: self.number,
             kind: BodyKind::Other,
             len: 0,
+            is_received: true,
             standing: Standing::Absent,
         })
     }

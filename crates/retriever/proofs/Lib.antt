@@ -16,3 +16,4 @@ pub mod LogLaws
 pub mod TellingLaws
 pub mod SavingLaws
 pub mod ResumeLaws
+pub mod UpkeepLaws

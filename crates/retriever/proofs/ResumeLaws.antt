@@ -14,7 +14,7 @@ use Rattle.retriever.specs.Saving.{resuming_of}
 use Rattle.retriever.specs.Systems.{Means, IsNotRead, IsNotResumed, IsRecordRead, IsResumed, LivesAgain, LivesBy, LivesPlainly, LivesSaving, LivesWith, settings_of}
 use Rattle.retriever.specs.inner.Systems.{AreResuming, is_plain}
 use Rattle.retriever.specs.declared.resume_fault.ResumeFault.{ResumeFault}
-use Rattle.retriever.specs.declared.resume_fault.ResumeFault.TheVariants.{Read, Input, Refused}
+use Rattle.retriever.specs.declared.resume_fault.ResumeFault.TheVariants.{Read, Input, Refused, Discontinued}
 
 -- a fault of bytes that a file may hold
 pub fault_not_read : (holds : List ℕ → Type 0) (links : LinkRules) (bytes : List ℕ) (wrong : InputFault) → holds bytes → IsFault links bytes wrong → IsNotRead holds links (Input wrong)
@@ -38,6 +38,7 @@ module _ {S B F K D V : Type 0} (m : Means S B F K D V) (order : Order) where
   read_not_resumed path given (Err (Read reading.Failed)) is same bad = (path, is, tt)
   read_not_resumed path given (Err (Input input.Memory)) is same bad = tt
   read_not_resumed path given (Err Refused) is same bad = absurd bad
+  read_not_resumed path given (Err Discontinued) is same bad = absurd bad
   read_not_resumed path given (Err (Input (input.Line n))) is same (bytes, held, bad) =
       (path, is, (bytes, subst (λ (p : List ℕ). m.gives.holds m.system p bytes) same held, bad))
   read_not_resumed path given (Err (Input (input.Address n))) is same (bytes, held, bad) =

@@ -17,4 +17,5 @@ pub mod Saving
 pub mod Resuming
 pub mod Systems
 pub mod Rejecting
+pub mod Upkeep
 pub mod inner

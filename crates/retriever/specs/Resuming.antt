@@ -5,7 +5,7 @@ use Rattle.site_inputs.specs.declared.input_fault.InputFault.TheVariants as inpu
 use Rattle.streams.specs.declared.input.ReadFault.TheVariants as reading
 use Rattle.retriever.specs.Parts.{IsDelivered}
 use Rattle.retriever.specs.declared.resume_fault.ResumeFault.{ResumeFault}
-use Rattle.retriever.specs.declared.resume_fault.ResumeFault.TheVariants.{Read, Input, Refused}
+use Rattle.retriever.specs.declared.resume_fault.ResumeFault.TheVariants.{Read, Input, Refused, Discontinued}
 
 -- what is written, in words
 abbrev pub resume_words : ResumeFault → List ℕ
@@ -16,8 +16,9 @@ resume_words (Input (input.Line n)) = codes "resume line " ++ decimal n
 resume_words (Input (input.Address n)) = codes "resume address " ++ decimal n
 resume_words (Input input.Memory) = codes "stopped memory"
 resume_words Refused = codes "record not written"
+resume_words Discontinued = codes "not continued"
 
--- 3 if the file can't be read or none may be saved, 2 for what it holds, 1 if memory ran out
+-- 3 if the file can't be read or none may be saved, 2 for what it or the folder holds, 1 if memory ran out
 abbrev pub resume_status : ResumeFault → ℕ
 resume_status (Read reading.Failed) = 3
 resume_status (Read reading.Long) = 2
@@ -26,6 +27,7 @@ resume_status (Input (input.Line n)) = 2
 resume_status (Input (input.Address n)) = 2
 resume_status (Input input.Memory) = 1
 resume_status Refused = 3
+resume_status Discontinued = 2
 
 -- its line is delivered with its status, or that for memory that ran out
 abbrev pub IsUnresumed : Option (List ℕ) → Option (List ℕ) → ResumeFault → ℕ → Type 0

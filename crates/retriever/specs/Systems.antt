@@ -21,7 +21,7 @@ use Rattle.retriever.specs.Live.{Lives}
 use Rattle.retriever.specs.Resuming.{IsUnresumed}
 use Rattle.retriever.specs.Saving.{LivesResumed, outside_saved, resumes, resuming_means, resuming_of}
 use Rattle.retriever.specs.declared.resume_fault.ResumeFault.{ResumeFault}
-use Rattle.retriever.specs.declared.resume_fault.ResumeFault.TheVariants.{Read, Input, Refused}
+use Rattle.retriever.specs.declared.resume_fault.ResumeFault.TheVariants.{Read, Input, Refused, Discontinued}
 use Rattle.live_system.specs.Settings.{Settings}
 use Rattle.pacing.specs.Retries.{retries_by}
 use Rattle.live_system.specs.declared.system.System.{Ghosts as Systems}
@@ -57,6 +57,7 @@ abbrev pub IsNotRead : (List ℕ → Type 0) → LinkRules → ResumeFault → T
 IsNotRead holds links (Read wrong) = Unit {0}
 IsNotRead holds links (Input input.Memory) = Unit {0}
 IsNotRead holds links Refused = ⊥
+IsNotRead holds links Discontinued = ⊥
 IsNotRead holds links (Input wrong) = (bytes : List ℕ) × holds bytes × IsFault links bytes wrong
 
 module _ {S B F K D V : Type 0} (m : Means S B F K D V) where
@@ -120,11 +121,12 @@ module _ {S B F K D V : Type 0} (m : Means S B F K D V) where
   LivesBy (None, Some path) order before after status = LivesWith (Some path) order before after status
   LivesBy (Some from, save) order before after status = LivesWith save order before after status
 
-  -- why the file that the order resumes can't be, or none may be saved where the order says
+  -- why the file that the order resumes can't be, or none may be saved where the order says, or what is in its folder can't be gone on with
   abbrev pub IsNotResumed : Order → ResumeFault → Type 0
   IsNotResumed order (Read reading.Memory) = Unit {0}
   IsNotResumed order (Input input.Memory) = Unit {0}
   IsNotResumed order Refused = (path : List ℕ) × (order.save ≡ Some path) × m.gives.refuses m.system path
+  IsNotResumed order Discontinued = (order.upkeep.continues ≡ true) × m.gives.discontinues m.system order.prefix
   IsNotResumed order wrong = (path : List ℕ) × (order.resume ≡ Some path) × IsNotRead (m.gives.holds m.system path) order.links wrong
 
   -- the live retrieval that is ordered, or the line that says why its record can't be resumed, or that memory ran out

@@ -129,6 +129,7 @@ where
     tell_moves(alloc, system, &retrieved);
     tell_quota(system, &retrieved);
     hand_over(log_of(alloc, order, &retrieved), log);
+    system.end_index(retrieved.is_ok());
     keep_to_the_end(retrieved);
     status
 }
@@ -336,6 +337,17 @@ fn is_plain(order: &Order) -> bool
     order.resume.is_none() && order.save.is_none()
 }
 
+// Has the system take what earlier runs left as the order says.
+fn begin_index<S: System>(system: &S, order: &Order) -> Result<(), ResumeFault>
+    ensures { IfErr result (IsNotResumed (means S.System system.now S.Fetcher.Fetcher S.Recorder.Fetcher S.Recorder.noted (kept_as S.Body.kind_of S.Body.len_of S.Folder.holds) S.Folder.Folder S.Record.Write) order.now) }
+{
+    match system.begin_index(order) {
+        Ok(()) => Ok(()),
+        Err(HoldFault::Refused) => Err(ResumeFault::Discontinued),
+        Err(HoldFault::Memory) => Err(ResumeFault::Read(ReadFault::Memory)),
+    }
+}
+
 // Retrieves as the order says. The error is why its record can't be resumed, or that memory ran out.
 fn live_in<H: Threads + Wait + Sync, S: System, W: Write, L: RejectedLog>(
     rt: &H,
@@ -351,6 +363,7 @@ fn live_in<H: Threads + Wait + Sync, S: System, W: Write, L: RejectedLog>(
     ensures logged { IsLogTaken (IsLogLive (means S.System system.now S.Fetcher.Fetcher S.Recorder.Fetcher S.Recorder.noted (kept_as S.Body.kind_of S.Body.len_of S.Folder.holds) S.Folder.Folder S.Record.Write) order.now) (L.contents log.old) (L.contents log.new) }
 {
     if is_plain(order) {
+        begin_index(system, order)?;
         return Ok(live_plainly(rt, alloc, system, order, writer, log)?);
     }
     hold(system, order)?;

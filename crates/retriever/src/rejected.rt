@@ -1,5 +1,5 @@
 //! The log of the links that filters reject, which is handed over at the end of a run.
-ghost use Rattle.std.specs.Prelude.{IfOk, string_bytes};
+ghost use Rattle.std.specs.Prelude.{◌≡◌, None, IfOk, string_bytes};
 ghost use Rattle.retriever.specs.Rejecting.{IfLog, IsLogOfEnd, IsLogRead, TakesLog, TakesMade};
 
 use live_system::RejectedLog;
@@ -25,7 +25,8 @@ pub(crate) fn log_of<B: Drop>(
     order: &Order,
     retrieved: &Result<Harvest<B>, Halt<B>>,
 ) -> Option<Result<String, AllocError>>
-    ensures { IfLog (IsLogOfEnd retrieved.now) result }
+    ensures log { IfLog (IsLogOfEnd retrieved.now) result }
+    ensures unordered { order.now.rejected_log ≡ None → result ≡ None }
 {
     let Ok(harvest) = retrieved else {
         return None;

@@ -17,10 +17,12 @@ pub(crate) enum ResumeFault {
     Input(InputFault),
     /// Nothing may be saved at the place where the run is to save.
     Refused,
+    /// The run is to go on from what is in its folder, and can't.
+    Discontinued,
 }
 
-/// The status with which the run ends: 3 if the file can't be read or none may be saved, 2 if it holds no record that can be resumed, 1 if
-/// memory ran out.
+/// The status with which the run ends: 3 if the file can't be read or none may be saved, 2 if it holds no record that can be resumed, or
+/// what is in the folder can't be gone on with, 1 if memory ran out.
 pub(crate) fn resume_status(fault: ResumeFault) -> u8
     ensures { result ≡ resume_status fault }
 {
@@ -31,6 +33,7 @@ pub(crate) fn resume_status(fault: ResumeFault) -> u8
         ResumeFault::Input(InputFault::Line(_) | InputFault::Address(_)) => 2,
         ResumeFault::Input(InputFault::Memory) => 1,
         ResumeFault::Refused => 3,
+        ResumeFault::Discontinued => 2,
     }
 }
 
@@ -64,6 +67,7 @@ pub(crate) fn resume_text(alloc: Global, fault: ResumeFault) -> Result<String, A
         ResumeFault::Read(wrong) => reading_words(wrong),
         ResumeFault::Input(wrong) => return record_text(alloc, wrong),
         ResumeFault::Refused => "record not written",
+        ResumeFault::Discontinued => "not continued",
     };
     with_newline(alloc, words)
 }

@@ -2,7 +2,9 @@
 use Rattle.std.specs.Prelude.{ℕ, Bool, List, Option}
 use Rattle.requests.specs.Requests.{Sending}
 use Rattle.fetcher.specs.declared.fetcher.Ask.{Ask}
-use Rattle.http_fetcher.specs.Fetching.{Fetching}
+use Rattle.requests.specs.Conditions.{Condition}
+use Rattle.http_fetcher.specs.Fetching.{Fetching, with_condition}
+use Rattle.tcp_fetcher.specs.declared.earlier.Earlier.{Earlier}
 use Rattle.tcp_connect.specs.Connecting.{Connecting}
 use Rattle.pacing.specs.Retries.{Retried}
 use Rattle.response_reader.specs.Limits.{Limited}
@@ -10,7 +12,7 @@ use Rattle.html_links.specs.declared.rules.LinkRules.{LinkRules}
 
 -- which links of pages it takes, whether it keeps connections, how many may then be open to a server, what it sends, when it asks
 -- again, how long an answer may be whose body goes to a keeper, whether files get the times of their pages, what was requested of it, in
--- order, and the fetcher that asks once for it
+-- order, the fetcher that asks once for it, and what it knows of an earlier run's pages, if an index is kept
 pub record TcpFetching : Type 0 where
   pub links : LinkRules
   pub keeps : Bool
@@ -21,3 +23,8 @@ pub record TcpFetching : Type 0 where
   pub takes_times : Bool
   pub asks : List Ask
   pub single : Fetching Connecting
+  pub known : Option Earlier
+
+-- one that asks once, with this condition
+abbrev pub conditioned : {C : Type 0} → Option Condition → Fetching C → Fetching C
+conditioned condition fetcher = record fetcher { sends = with_condition condition fetcher.sends }

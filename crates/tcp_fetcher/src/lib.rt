@@ -4,9 +4,11 @@
 //! No test is of it alone: `tests/check-main` and `tests/hostile` go through it.
 #![tactic(auto)]
 
+mod earlier;
 mod over_tcp;
 mod parts_over_tcp;
 mod watched_tcp;
 
+pub use crate::earlier::{Earlier, PageNote};
 pub use crate::over_tcp::OverTcp;
 pub use crate::parts_over_tcp::PartsOverTcp;

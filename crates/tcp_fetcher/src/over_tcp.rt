@@ -5,10 +5,13 @@ ghost use Rattle.fetcher.specs.declared.fetcher.Ask.TheVariants as ask;
 ghost use Rattle.answer_notes.specs.HopChains.{ChainValue, rules_of_hops};
 ghost use Rattle.answer_notes.specs.Tellings.{outcome_told, body_told};
 ghost use Rattle.answer_notes.specs.declared.told.Told.{Told};
+ghost use Rattle.http_fetcher.specs.Fetching.{with_condition};
 ghost use Rattle.http_fetcher.specs.Meanings.{MayAnswer, MayRule};
+ghost use Rattle.response_reader.specs.Limits.{limited};
 ghost use Rattle.retries.specs.Keeping.{MayKeep, StandsForAnswer, asks_of, is_worth_answer};
 ghost use Rattle.retries.specs.Tries.{IsLastOf};
 ghost use Rattle.retries.specs.Worth.{is_worth, is_worth_hops};
+ghost use Rattle.tcp_fetcher.specs.TcpFetching.{conditioned};
 
 use crate::watched_tcp::WatchedTcp;
 use address::{Address, Origin};
@@ -19,7 +22,7 @@ use http_fetcher::HttpFetcher;
 use kept_bodies::Keeper;
 use pacing::{Manner, Retries};
 use progress::Progress;
-use requests::{Proxies, Sending};
+use requests::{Condition, Proxies, Sending};
 use response_answer::PageSink;
 use response_reader::Limits;
 use retries::Calling;
@@ -63,13 +66,15 @@ impl<'a, R: Net + Wait + Clock + Eprint> Drop for OverTcp<'a, R> {
 }
 
 impl<'a, R: Net + Wait + Clock + Eprint> Model for OverTcp<'a, R> {
+    ghost use Rattle.std.specs.Prelude.{None};
     ghost use Rattle.pacing.specs.Retries.{retries_by};
     ghost use Rattle.response_reader.specs.Limits.{limited};
     ghost use Rattle.tcp_fetcher.specs.TcpFetching.{TcpFetching};
 
     ghost Value = { TcpFetching };
 
-    ghost view = { λ f. record { links = f.inner.links; keeps = f.inner.keeps; most = f.inner.connect.most; sends = f.inner.sends; retries = retries_by f.retries; limits = limited f.limits; takes_times = f.takes_times; asks = f.asks.items; single = f.inner } };
+    // It knows of no earlier run.
+    ghost view = { λ f. record { links = f.inner.links; keeps = f.inner.keeps; most = f.inner.connect.most; sends = f.inner.sends; retries = retries_by f.retries; limits = limited f.limits; takes_times = f.takes_times; asks = f.asks.items; single = f.inner; known = None } };
 }
 
 impl<'a, R: Net + Wait + Clock + Eprint> OverTcp<'a, R> {
@@ -123,11 +128,35 @@ impl<'a, R: Net + Wait + Clock + Eprint> OverTcp<'a, R> {
         }
     }
 
+    // From here on the request for the page of this condition has it (RFC 9110, section 13.1), each try of it, and no other request has
+    // one.
+    pub(crate) fn set_condition(&mut self, condition: Option<Condition>)
+        ensures { self.new ≡ record self.old { sends = with_condition condition self.old.sends; single = conditioned condition self.old.single } }
+    {
+        self.inner.set_condition(condition);
+    }
+
     // Whether the file of a page gets the time at which that changed.
     pub(crate) fn takes_times(&self) -> bool
         ensures { result ≡ self.now.takes_times }
     {
         self.takes_times
+    }
+
+    // How long an answer may be whose body goes to a keeper.
+    pub(crate) fn limits(&self) -> Limits
+        ensures { limited result ≡ self.now.limits }
+    {
+        self.limits
+    }
+
+    // Notes that a page is requested of it, whether that is then known without the network or not.
+    pub(crate) fn note_ask(&mut self, at: &Address) -> Result<(), AllocError>
+        ensures asked { OnOk result (self.new ≡ record self.old { asks = self.old.asks ++ ask.Page at.now ∷ [] }) }
+        ensures refused { OnErr result (self.new ≡ self.old) }
+    {
+        self.asks.push(Ask::Page(at.try_clone()?))?;
+        Ok(())
     }
 
     /// Why the last connection was lost, if it was.
@@ -175,22 +204,22 @@ impl<'a, R: Net + Wait + Clock + Eprint> OverTcp<'a, R> {
         hops.rules(self.alloc)
     }
 
-    // Requests a page, whose body goes to the sink's keeper while it arrives.
-    pub(crate) fn ask_into<K: Keeper>(
+    // Requests a page over the network that was noted, whose body goes to the sink's keeper while it arrives.
+    pub(crate) fn ask_noted<K: Keeper>(
         &mut self,
         sink: &mut PageSink<K>,
         at: &Address,
     ) -> Result<Answer<K::Kept>, AllocError>
         ensures site { self.new.links ≡ self.old.links }
         ensures told { IfOk result (StandsForAnswer K.holds self.old.limits self.old.links at.now) }
-        ensures asked { OnOk result (self.new.asks ≡ self.old.asks ++ ask.Page at.now ∷ []) }
-        ensures refused { OnErr result (GainedAtMost self.old.asks self.new.asks (ask.Page at.now)) }
+        ensures asks { self.new.asks ≡ self.old.asks }
         ensures tries { IfOk result (IsLastOf asks_of (MayKeep K.holds self.old.limits at.now) (is_worth_answer self.old.retries) (ask.Page at.now) self.old.retries.most self.old.single self.new.single) }
         ensures retries { self.new.retries ≡ self.old.retries }
         ensures limits { self.new.limits ≡ self.old.limits }
         ensures takes_times { self.new.takes_times ≡ self.old.takes_times }
+        ensures sends { self.new.sends ≡ self.old.sends }
+        ensures known { self.new.known ≡ self.old.known }
     {
-        self.asks.push(Ask::Page(at.try_clone()?))?;
         retries::ask_into(&mut self.inner, sink, &self.retries, at, self.limits)
     }
 }

@@ -1,18 +1,27 @@
 //! What asks over TCP for one worker, and has the bodies kept in files while they arrive.
-ghost use Rattle.std.specs.Prelude.{◌≡◌, ◌++◌, ◌∷◌, [], IfOk, OnErr, OnOk};
+ghost use Rattle.std.specs.Prelude.{◌≡◌, ◌⊎◌, ◌++◌, ◌∷◌, [], None, Some, IfOk, IfSome, IsTrue, OnErr, OnOk, option_map, true};
+ghost use Rattle.std.specs.Arc.{arc_value};
 ghost use Rattle.fetcher.specs.Logs.{GainedAtMost};
 ghost use Rattle.fetcher.specs.declared.fetcher.Ask.TheVariants as ask;
-ghost use Rattle.part_keeper.specs.Parts.{holds_part};
-ghost use Rattle.retries.specs.Keeping.{MayKeep, asks_of, is_worth_answer};
-ghost use Rattle.retries.specs.Tries.{IsLastOf};
+ghost use Rattle.http_fetcher.specs.Fetching.{with_condition};
+ghost use Rattle.tcp_fetcher.specs.Answering.{IsAnswered, IsConcluded, IsLeft, IsReceived, IsReceivedIfChanged, IsReceivedUnder, IsRecorded, IsTold, has_status, is_unchanged, lasting, not_received, without_digest};
 ghost use Rattle.tcp_fetcher.specs.PartsFetching.{MayAnswerIn, MayRuleIn, PartsSite, parts_site};
 
+use crate::earlier::{Earlier, PageNote};
 use crate::over_tcp::OverTcp;
 use address::{Address, Origin};
+use answer_notes::Telling;
+use body_digests::{Digested, Digesting};
+use earlier_pages::EarlierPage;
 use early_names::EarlyRules;
-use fetcher::{Answer, Ask, Fetcher};
-use part_keeper::{Part, PartCounter, PartKeeper, PartsDir};
+use fetcher::{Answer, Ask, Fetcher, Outcome};
+use http_fetcher::answer_over;
+use kept_bodies::BodyKind;
+use mirror_index::KeptHead;
+use part_keeper::{Part, PartCounter, PartKeeper, PartsDir, Standing};
+use requests::Condition;
 use response_answer::PageSink;
+use response_reader::TcpWire;
 use robots_rules::RuleSet;
 use run_failures::LossKind;
 use std::alloc::{AllocError, Global};
@@ -30,10 +39,17 @@ where
     R::File: Close + Lock,
 {
     inner: OverTcp<'a, R>,
-    sink: PageSink<PartKeeper<'a, R>>,
+    sink: PageSink<Digesting<PartKeeper<'a, R>>>,
     // Takes pages that aren't kept.
     passing: PageSink<PartCounter>,
     rules: Option<Arc<EarlyRules>>,
+    // What is known of an earlier run's pages, if an index is kept.
+    earlier: Option<Arc<Earlier>>,
+    // The SHA-256 of the body that was kept last, if an index is kept and the last page has one.
+    last: Option<[u8; 32]>,
+    // Whether what was answered last was requested over the network.
+    is_requested: bool,
+    alloc: Global,
     rt: &'a R,
     kept: &'a Kept<R::Stream>,
     parts: &'a PartsDir<R::File>,
@@ -50,6 +66,10 @@ where
             sink: _sink,
             passing: _passing,
             rules: _rules,
+            earlier: _earlier,
+            last: _last,
+            is_requested: _is_requested,
+            alloc: _alloc,
             rt: _rt,
             kept: _kept,
             parts: _parts,
@@ -61,11 +81,13 @@ impl<'a, R: Net + Wait + Clock + Eprint + Files> Model for PartsOverTcp<'a, R>
 where
     R::File: Close + Lock,
 {
+    ghost use Rattle.std.specs.Prelude.{option_map};
+    ghost use Rattle.std.specs.Arc.{arc_value};
     ghost use Rattle.tcp_fetcher.specs.TcpFetching.{TcpFetching};
 
     ghost Value = { TcpFetching };
 
-    ghost view = { λ f. f.inner };
+    ghost view = { λ f. record f.inner { known = option_map arc_value f.earlier } };
 }
 
 impl<'a, R: Net + Wait + Clock + Eprint + Files> PartsOverTcp<'a, R>
@@ -73,7 +95,8 @@ where
     R::File: Close + Lock,
 {
     /// Asks by this fetcher, and keeps the bodies below this directory, unless these rules don't keep their pages. If a file needs a
-    /// descriptor, connections that wait are ended. Takes no memory.
+    /// descriptor, connections that wait are ended. If pages of an earlier run are known, those whose files are as they were are requested
+    /// only if they changed, or not at all. Takes no memory.
     pub fn new(
         rt: &'a R,
         alloc: Global,
@@ -81,24 +104,256 @@ where
         kept: &'a Kept<R::Stream>,
         parts: &'a PartsDir<R::File>,
         rules: Option<Arc<EarlyRules>>,
+        earlier: Option<Arc<Earlier>>,
     ) -> PartsOverTcp<'a, R>
-        ensures { result ≡ inner.entry }
+        ensures { result ≡ record inner.entry { known = option_map arc_value earlier } }
     {
         let keeper = PartKeeper::new(rt, alloc, parts, inner.takes_times());
         PartsOverTcp {
             inner,
-            sink: PageSink::new(alloc, keeper),
+            sink: PageSink::new(alloc, Digesting::new(keeper, earlier.is_some())),
             passing: PageSink::new(alloc, PartCounter::new()),
             rules,
+            earlier,
+            last: None,
+            is_requested: true,
+            alloc,
             rt,
             kept,
             parts,
         }
     }
 
-    /// Why the last connection was lost, if it was.
+    // The answer, whose body's digest is that of the last one from then on.
+    fn taken(&mut self, answer: Answer<Digested<Part>>) -> Answer<Part>
+        ensures answer { result ≡ without_digest answer }
+        ensures fetcher { self.new ≡ self.old }
+    {
+        let Answer { outcome, body } = answer;
+        let Digested { kept, digest } = body;
+        self.last = digest;
+        Answer {
+            outcome,
+            body: kept,
+        }
+    }
+
+    // Requests a page over the network that was noted.
+    fn ask_noted(&mut self, at: &Address) -> Result<Answer<Part>, AllocError>
+        ensures received { IfOk result (IsTold (lasting self.old) at.now (IsReceived (lasting self.old) at.now self.old.single self.new.single)) }
+        ensures lasting { lasting self.new ≡ lasting self.old }
+    {
+        let answer = self.inner.ask_noted(&mut self.sink, at)?;
+        Ok(self.taken(answer))
+    }
+
+    // The page of an earlier run again, if its file still has the bytes that it had.
+    fn replayed(
+        &mut self,
+        at: &Address,
+        page: EarlierPage<'_, R::File>,
+    ) -> Result<Option<Answer<Part>>, AllocError>
+        ensures recorded { IfOk result (λ found. IfSome found (IsRecorded (lasting self.old) at.now page.entry.entry)) }
+        ensures fetcher { self.new ≡ self.old }
+    {
+        let digest = *page.entry().digest();
+        let status = page.entry().head().status();
+        let mut wire = TcpWire::new(page.into_stream()?);
+        let links = self.inner.link_rules();
+        let limits = self.inner.limits();
+        let answer = answer_over(self.alloc, &mut wire, at, &mut self.sink, links, limits)?;
+        if is_recorded(&answer, &digest, status) {
+            return Ok(Some(not_received(self.taken(answer))));
+        }
+        Ok(None)
+    }
+
+    // Requests a page over the network, with this condition alone.
+    fn ask_under(&mut self, at: &Address, condition: Condition) -> Result<Answer<Part>, AllocError>
+        ensures received { IfOk result (IsTold (lasting self.old) at.now (IsReceivedUnder (lasting self.old) at.now condition self.old.single self.new.single)) }
+        ensures lasting { lasting self.new ≡ lasting self.old }
+    {
+        self.inner.set_condition(Some(condition));
+        let answer = self.ask_noted(at);
+        self.inner.set_condition(None);
+        answer
+    }
+
+    // What is answered after a request with a condition: if the server says that the page is as it was, it is read again, or requested
+    // without a condition if its file was changed since that was looked at.
+    fn concluded(
+        &mut self,
+        at: &Address,
+        page: EarlierPage<'_, R::File>,
+        received: Answer<Part>,
+    ) -> Result<Answer<Part>, AllocError>
+        requires { MayAnswerIn (parts_site self.old) at.now received.outcome received.body }
+        ensures concluded { IfOk result (IsTold (lasting self.old) at.now (IsConcluded (lasting self.old) at.now page.entry.entry received self.old.single self.new.single)) }
+        ensures lasting { lasting self.new ≡ lasting self.old }
+    {
+        if !is_unchanged(&received.outcome) {
+            return Ok(received);
+        }
+        match self.replayed(at, page)? {
+            Some(answer) => Ok(answer),
+            None => self.ask_noted(at),
+        }
+    }
+
+    // Requests a page of which an earlier run has the body, if it changed.
+    fn ask_if_changed(
+        &mut self,
+        at: &Address,
+        page: EarlierPage<'_, R::File>,
+    ) -> Result<Answer<Part>, AllocError>
+        ensures answered { IfOk result (IsTold (lasting self.old) at.now (λ a. IsReceived (lasting self.old) at.now self.old.single self.new.single a ⊎ IsReceivedIfChanged (lasting self.old) at.now page.entry.entry self.old.single self.new.single a)) }
+        ensures lasting { lasting self.new ≡ lasting self.old }
+    {
+        let Some(condition) = page.condition()? else {
+            return self.ask_noted(at);
+        };
+        let received = self.ask_under(at, condition)?;
+        self.concluded(at, page, received)
+    }
+
+    // Requests a page of which an earlier run has the body, only if its file was changed since that was looked at.
+    fn ask_if_missing(
+        &mut self,
+        at: &Address,
+        page: EarlierPage<'_, R::File>,
+    ) -> Result<Answer<Part>, AllocError>
+        ensures answered { IfOk result (IsTold (lasting self.old) at.now (λ a. IsReceived (lasting self.old) at.now self.old.single self.new.single a ⊎ IsLeft (lasting self.old) at.now page.entry.entry self.old.single self.new.single a)) }
+        ensures lasting { lasting self.new ≡ lasting self.old }
+    {
+        match self.replayed(at, page)? {
+            Some(answer) => {
+                self.is_requested = false;
+                Ok(answer)
+            }
+            None => self.ask_noted(at),
+        }
+    }
+
+    // Answers for a page that is kept: by what an earlier run has of it, if that is still there and it didn't change.
+    fn ask_kept(&mut self, at: &Address) -> Result<Answer<Part>, AllocError>
+        ensures answered { IfOk result (IsTold (lasting self.old) at.now (IsAnswered (lasting self.old) at.now self.old.single self.new.single)) }
+        ensures lasting { lasting self.new ≡ lasting self.old }
+    {
+        let Some(earlier) = shared(&self.earlier) else {
+            return self.ask_noted(at);
+        };
+        let Some(page) = earlier.pages.page(self.rt, at) else {
+            return self.ask_noted(at);
+        };
+        if earlier.is_asked {
+            self.ask_if_changed(at, page)
+        } else {
+            self.ask_if_missing(at, page)
+        }
+    }
+
+    /// What an index gets of a page and its answer, the last one, if an index is kept and the page can be answered by it: not if its body
+    /// was coded, since its links weren't looked for.
+    pub fn note(
+        &self,
+        at: &Address,
+        answer: &Answer<Part>,
+    ) -> Result<Option<PageNote>, AllocError> {
+        let Some(digest) = self.last else {
+            return Ok(None);
+        };
+        let Some(status) = status_noted(answer) else {
+            return Ok(None);
+        };
+        let kind = copy_of(self.alloc, self.sink.content_type())?;
+        let tag = copy_of(self.alloc, self.sink.etag())?;
+        let changed = copy_of(self.alloc, self.sink.last_modified())?;
+        Ok(Some(PageNote {
+            at: at.try_clone()?,
+            len: answer.body.len,
+            digest,
+            head: KeptHead::new(status, kind, tag, changed),
+        }))
+    }
+
+    /// Why the last connection was lost, if the last request was over one and that was lost.
     pub fn loss(&self) -> Option<LossKind> {
-        self.inner.loss()
+        if self.is_requested {
+            self.inner.loss()
+        } else {
+            None
+        }
+    }
+}
+
+// Whether the server said that a page is as it was (RFC 9110, section 15.4.5).
+fn is_unchanged(outcome: &Outcome) -> bool
+    ensures { result ≡ is_unchanged outcome.now }
+{
+    match outcome {
+        Outcome::Leaf(status) => *status == 304,
+        Outcome::Page(_, _) | Outcome::Moved(_, _) | Outcome::Fault(_) => false,
+    }
+}
+
+// Whether it is a response of this status that is no redirect.
+fn has_status(outcome: &Outcome, said: u16) -> bool
+    ensures { result ≡ has_status outcome.now said }
+{
+    match outcome {
+        Outcome::Page(status, _) | Outcome::Leaf(status) => *status == said,
+        Outcome::Moved(_, _) | Outcome::Fault(_) => false,
+    }
+}
+
+// Whether an answer is of this status, and its body has this digest.
+fn is_recorded(answer: &Answer<Digested<Part>>, digest: &[u8; 32], status: u16) -> bool
+    ensures { IsTrue result → (answer.now.body.digest ≡ Some digest.now) × (has_status answer.now.outcome status ≡ true) }
+{
+    match &answer.body.digest {
+        Some(own) => own.as_slice() == digest.as_slice() && has_status(&answer.outcome, status),
+        None => false,
+    }
+}
+
+// An answer whose body was read from an earlier run's file.
+fn not_received(answer: Answer<Part>) -> Answer<Part>
+    ensures { result ≡ not_received answer }
+{
+    Answer {
+        body: Part {
+            is_received: false,
+            ..answer.body
+        },
+        ..answer
+    }
+}
+
+// What is known of an earlier run's pages. If there is no room to share it nothing is.
+fn shared(earlier: &Option<Arc<Earlier>>) -> Option<Arc<Earlier>>
+    ensures { IfSome result (λ known. option_map arc_value earlier.now ≡ Some (arc_value known)) }
+{
+    match earlier {
+        Some(earlier) => Arc::try_clone(earlier).ok(),
+        None => None,
+    }
+}
+
+// The status of a kept page that can be answered again from its file.
+fn status_noted(answer: &Answer<Part>) -> Option<u16> {
+    match (&answer.outcome, answer.body.kind, answer.body.standing) {
+        (_, _, Standing::Lost | Standing::Absent) => None,
+        (Outcome::Page(status, _), _, _) => Some(*status),
+        (Outcome::Leaf(status), BodyKind::Other, _) => Some(*status),
+        _ => None,
+    }
+}
+
+// A copy of a value, if there is one.
+fn copy_of(alloc: Global, value: Option<&[u8]>) -> Result<Option<Vec<u8>>, AllocError> {
+    match value {
+        Some(value) => Ok(Some(Vec::from_slice(alloc, value)?)),
+        None => Ok(None),
     }
 }
 
@@ -143,20 +398,28 @@ where
         ensures told { IfOk result (λ a. MayAnswerIn (parts_site self.old) at.now a.outcome a.body) }
         ensures asked { OnOk result (self.new.asks ≡ self.old.asks ++ ask.Page at.now ∷ []) }
         ensures refused { OnErr result (GainedAtMost self.old.asks self.new.asks (ask.Page at.now)) }
-        // The network is asked once, or again if that is worth it; what is received last is the answer.
-        ensures tries { IfOk result (IsLastOf asks_of (MayKeep holds_part self.old.limits at.now) (is_worth_answer self.old.retries) (ask.Page at.now) self.old.retries.most self.old.single self.new.single) }
+        // The network is asked once, or again if that is worth it; what is received last is the answer. What an earlier run kept is the answer
+        // if the server says that it is as it was, or if it isn't to be requested.
+        ensures tries { IfOk result (IsAnswered (lasting self.old) at.now self.old.single self.new.single) }
         ensures retries { self.new.retries ≡ self.old.retries }
         ensures takes_times { self.new.takes_times ≡ self.old.takes_times }
+        // It sends what it sent, apart from a condition.
+        ensures sends { with_condition None self.new.sends ≡ with_condition None self.old.sends }
+        ensures known { self.new.known ≡ self.old.known }
     {
+        self.last = None;
+        self.is_requested = true;
+        self.inner.note_ask(at)?;
         if !keeps(&self.rules, at) {
-            return self.inner.ask_into(&mut self.passing, at);
+            return self.inner.ask_noted(&mut self.passing, at);
         }
-        let answer = self.inner.ask_into(&mut self.sink, at);
+        let answer = self.ask_kept(at);
         write_late(self.rt, self.kept, self.parts);
         answer
     }
 
     fn ask_robots(&mut self, of: &Origin) -> Result<RuleSet, AllocError> {
+        self.is_requested = true;
         self.inner.ask_robots(of)
     }
 

@@ -3,8 +3,8 @@
 #![tactic(auto)]
 
 use host_system::{
-    EarlyRun, Network, Output, PartThreads, PartsDir, RejectedFile, SharedFailures, StandIns,
-    jar_of, starts_of,
+    EarlyRun, IndexRun, Network, Output, PartThreads, PartsDir, RejectedFile, SharedFailures,
+    StandIns, jar_of, starts_of,
 };
 use progress::{BehindLine, Progress};
 use record_journal::Saving;
@@ -88,6 +88,7 @@ fn main(rt: HostRuntime) -> ExitCode {
     let crew = PartThreads::new(&rt, &rt);
     let parts = PartsDir::new(rt.alloc());
     let early = EarlyRun::new(rt.alloc());
+    let index = IndexRun::new(rt.alloc());
     let network = Network::new(
         &rt,
         rt.alloc(),
@@ -98,6 +99,7 @@ fn main(rt: HostRuntime) -> ExitCode {
         &crew,
         &parts,
         &early,
+        &index,
         &failures,
         jar,
     );

@@ -21,17 +21,19 @@ use std::io::{Error, ErrorKind};
 use streams::{Close, Lock};
 
 impl HasKind for Part {
+    ghost use Rattle.part_keeper.specs.Parts.{received_len};
+
     ghost kind_of = { λ part. part.kind };
 
-    // How many bytes came.
-    ghost len_of = { λ part. part.len };
+    // What was read from an earlier run's file wasn't received.
+    ghost len_of = { received_len };
 
     fn kind_of(&self) -> BodyKind {
         self.kind
     }
 
     fn len_of(&self) -> u64 {
-        self.len
+        if self.is_received { self.len } else { 0 }
     }
 }
 
@@ -243,7 +245,7 @@ where
 {
     ghost use Rattle.std.specs.Prelude.{⊤};
 
-    // Of what stands on the disk nothing is known.
+    // Of what is on the disk nothing is known.
     ghost holds = { λ part body. ⊤ };
 
     fn put_kept(&mut self, name: &str, kept: &Part) -> Result<(), FolderFault> {
@@ -305,7 +307,7 @@ pub fn put_parts<D: NamesParts>(
     harvest: &Harvest<Part>,
 ) -> Result<(), WriteFault>
     requires { length names.now ≡ length harvest.now.kept }
-    // As of a folder that tells no files.
+    // As of a folder whose files aren't known.
     ensures torn { IfErr result (IsHalfShelvedBy (λ part body. ⊤) (map string_bytes names.now) harvest.now.bodies (untold (D.failed folder.old)) (untold (D.failed folder.new))) }
     ensures named { IfErr result (AreNamedBy (length names.now) (D.failed folder.old) (D.failed folder.new)) }
     ensures quiet { OnOk result (D.failed folder.new ≡ D.failed folder.old) }
@@ -359,7 +361,7 @@ pub fn put_changed_parts<D: NamesParts, C: BodyChange>(
     change: &C,
 ) -> Result<bool, WriteFault>
     requires { length names.now ≡ length harvest.now.kept }
-    // As of a folder that tells no files.
+    // As of a folder whose files aren't known.
     ensures torn { IfErr result (IsHalfShelvedAsBy (C.becomes change.now) (λ part body. ⊤) (map string_bytes names.now) harvest.now.bodies (untold (D.failed folder.old)) (untold (D.failed folder.new))) }
     ensures named { IfErr result (AreNamedBy (length names.now) (D.failed folder.old) (D.failed folder.new)) }
     ensures quiet { OnOk result (D.failed folder.new ≡ D.failed folder.old) }

@@ -8,7 +8,7 @@ use Rattle.options.proofs.read.read_settings.Goals as goal
 
 pub returns-in-Some : goal.returns-in-Some
 returns-in-Some c =
-    inl (bad-words (rows_of (found_of c.args.matches.now)) (sym c.in-Some.ensures.good) ∙ ap Err (sym (ap without_kind c.in-Some.ensures.refused)))
+    inl (bad-words (rows_of (found_of c.args.matches.now)) (sym c.in-Some.ensures.good) ∙ ap Err (sym c.in-Some.ensures.refused))
 
 pub returns-in_default-read_counts : goal.returns-in_default-read_counts
 returns-in_default-read_counts c =

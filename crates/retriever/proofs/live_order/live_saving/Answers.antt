@@ -43,7 +43,7 @@ returns-clause-logged g c =
     let those = c.in_ok-resumed.ensures.resumed in
     let order = c.args.order.now in
     logged_more _ _ _ _
-    (crew_taken (resuming_means g.S.Recorder.Fetcher) order c.in_ok-resumed.resumed.items c.live_saved-status.result.1 c.log_of.result _ _ c.live_saved-status.ensures.retrieved c.log_of.ensures c.hand_over.ensures)
+    (crew_taken (resuming_means g.S.Recorder.Fetcher) order c.in_ok-resumed.resumed.items c.live_saved-status.result.1 c.log_of.result _ _ c.live_saved-status.ensures.retrieved c.log_of.ensures.log c.hand_over.ensures)
     (λ text log. inr (record {
       recorded = c.args.recorded.now;
       resumed = c.requires.resumed;

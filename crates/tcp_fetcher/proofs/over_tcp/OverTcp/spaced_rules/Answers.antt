@@ -1,5 +1,5 @@
 -- The rules are of what the fetcher that asks once received last; if it may not be asked again, it was asked once.
-use Rattle.std.proofs.Common.{◌≡◌, ◌≤◌, ℕ, Bool, List, [], ◌∷◌, ◌++◌, Option, Ok, Err, arith}
+use Rattle.std.proofs.Common.{◌≡◌, ℕ, Bool, List, [], ◌∷◌, ◌++◌, Option, Ok, Err, arith}
 use Rattle.std.specs.Prelude.{Result, OnOk}
 use Rattle.run_failures.specs.declared.loss_kind.LossKind.{LossKind}
 use Rattle.response_answer.proofs.DigestLemmas.{if_ok_map}

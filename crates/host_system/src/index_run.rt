@@ -1,0 +1,659 @@
+//! What earlier runs left in the folder, by the index and the journal that are there, and what this one leaves.
+ghost use Rattle.std.specs.Prelude.{◌≡◌, ◌||◌, ◌++◌, ◌∷◌, [], Err, IfOk, not, string_bytes, true};
+ghost use Rattle.host_system.specs.declared.index_run.BeginFault.TheVariants.{Unfit};
+
+use crate::journal::{JOURNAL, Journal, Left, is_nothing, left_at};
+use crate::shared_failures::SharedFailures;
+use address::Address;
+use earlier_pages::EarlierPages;
+use harvest::Harvest;
+use mirror_index::{Entry, IndexFault, MAX_INDEX, MirrorIndex, read_index, write_index};
+use mirror_upkeep::{
+    first_line, gone, in_way, is_anothers, is_sure, joined, named_pages, places_by_name,
+};
+use options::{Order, Upkeep};
+use part_keeper::Part;
+use std::alloc::{AllocError, Global};
+use std::fs::{File, Files};
+use std::io::{ErrorKind, Write};
+use std::sync::{Arc, Mutex, Wait};
+use std::{io, mem};
+use streams::{Close, Lock, ReadFault, read_input};
+use tcp_fetcher::{Earlier, PageNote};
+
+/// What the index is called, directly below the folder. No page has a name that begins so.
+pub(crate) const INDEX: &str = ".wgetr%index";
+
+/// Why a run isn't begun.
+#[derive(Clone, Copy)]
+pub(crate) enum BeginFault {
+    /// It is to go on from what can't be gone on with.
+    Unfit,
+    /// Memory ran out.
+    Memory,
+}
+
+impl From<AllocError> for BeginFault {
+    ghost use Rattle.std.specs.Prelude.{◌≡◌};
+    ghost use Rattle.host_system.specs.declared.index_run.BeginFault.TheVariants.{Memory};
+
+    ghost from_gives = { λ e fault. fault ≡ Memory };
+
+    fn from(_error: AllocError) -> BeginFault {
+        BeginFault::Memory
+    }
+}
+
+// What a run was begun with.
+#[derive(Drop)]
+struct Begun {
+    folder: String,
+    upkeep: Upkeep,
+    // Whether bodies are kept beside files whose links change.
+    backs_up: bool,
+    earlier: Arc<Earlier>,
+    // The places of the earlier pages' entries, in the order of their names.
+    by_name: Vec<usize>,
+}
+
+// Whether an index is kept.
+fn keeps_index(upkeep: Upkeep) -> bool
+    ensures { result ≡ (upkeep.timestamps || upkeep.skips) }
+{
+    upkeep.timestamps || upkeep.skips
+}
+
+// Whether nothing of what earlier runs left is taken, and nothing is left for later ones.
+fn takes_nothing(upkeep: Upkeep) -> bool
+    ensures { result ≡ not (upkeep.continues || upkeep.timestamps || upkeep.skips) }
+{
+    !upkeep.continues && !keeps_index(upkeep)
+}
+
+// What is taken of what was left at the place of the journal.
+enum Usable<F> {
+    // These pages, perhaps none, and the file that they are in.
+    Pages(MirrorIndex, Option<F>),
+    // Nothing: a run that is at work has its journal there, so this one has none.
+    Theirs,
+}
+
+// What a run put.
+#[derive(Drop)]
+struct Put {
+    // Its pages.
+    pages: MirrorIndex,
+    // The names of the files of gone pages; none if no file is to be removed.
+    gone: Vec<String>,
+    // Whether what it didn't put is gone.
+    is_sure: bool,
+}
+
+/// What a run knows of the pages that earlier ones kept, and what it notes of those that it keeps itself, for later ones. All its workers
+/// share it.
+pub struct IndexRun<F: Drop> {
+    alloc: Global,
+    // None before a run begins.
+    begun: Mutex<Option<Arc<Begun>>>,
+    // The pages of this run with the names that they have early, perhaps empty ones, if an index is kept.
+    pages: Mutex<Vec<Entry>>,
+    journal: Mutex<Journal<F>>,
+    // None before all files were put.
+    put: Mutex<Option<Put>>,
+}
+
+// Written by hand: a user that drops one proves a call, and nothing about its fields.
+impl<F: Drop> Drop for IndexRun<F> {
+    fn drop(self) {
+        let IndexRun {
+            alloc: _alloc,
+            begun: _begun,
+            pages: _pages,
+            journal: _journal,
+            put: _put,
+        } = self;
+    }
+}
+
+// These take `&mut` to the locked data, so that no early return of theirs drops the guard.
+
+// This is known from now on.
+fn set<T: Drop>(held: &mut Option<T>, value: T) {
+    *held = Some(value);
+}
+
+// What is known. If there is no room to share it nothing is.
+fn shared(held: &mut Option<Arc<Begun>>) -> Option<Arc<Begun>> {
+    match held {
+        Some(begun) => Arc::try_clone(begun).ok(),
+        None => None,
+    }
+}
+
+// A value that several have.
+fn in_common<T: Drop>(alloc: Global, value: T) -> Result<Arc<T>, AllocError> {
+    Ok(Arc::new(alloc, value)?)
+}
+
+// One more page is noted.
+fn push(pages: &mut Vec<Entry>, page: Entry) -> Result<(), AllocError> {
+    pages.push(page)?;
+    Ok(())
+}
+
+// All pages, of which there are none from then on.
+fn take(alloc: Global, pages: &mut Vec<Entry>) -> Vec<Entry> {
+    mem::replace(pages, Vec::new(alloc))
+}
+
+// What was put, which nothing was from then on.
+fn take_put(put: &mut Option<Put>) -> Option<Put> {
+    mem::replace(put, None)
+}
+
+// This is the journal from now on.
+fn set_journal<F: Drop>(held: &mut Journal<F>, journal: Journal<F>) {
+    *held = journal;
+}
+
+// The path of a file of the program's own, directly below a folder.
+fn own_path(alloc: Global, folder: &str, name: &str) -> Result<String, AllocError>
+    ensures { IfOk result (λ path. string_bytes path ≡ folder.now ++ 47 ∷ name.now) }
+{
+    format!(in alloc; "{folder}/{name}")
+}
+
+// Says to a person what is so with a file of the program's own, and what follows.
+fn tell<R: Wait>(
+    rt: &R,
+    alloc: Global,
+    failures: &SharedFailures,
+    path: &str,
+    why: &str,
+    then: &str,
+) -> Result<(), AllocError> {
+    let line = format!(in alloc; "{path}: {why}; {then}\n")?;
+    failures.say(rt, line.as_str());
+    Ok(())
+}
+
+// Why there is no index.
+enum Unread {
+    // There is nothing.
+    Nothing,
+    // It can't be used, for this reason.
+    Unused(&'static str),
+    // This line is damaged.
+    Line(usize),
+    Memory,
+}
+
+// All bytes of the index at a path.
+fn bytes_at<R: Files>(rt: &R, alloc: Global, path: &str) -> Result<Vec<u8>, Unread> {
+    match rt.symlink_metadata(path) {
+        Ok(found) if found.is_file() => {}
+        Err(e) if is_nothing(&e) => return Err(Unread::Nothing),
+        _ => return Err(Unread::Unused("isn't a file")),
+    }
+    let Ok(mut file) = File::open(rt, path) else {
+        return Err(Unread::Unused("can't be read"));
+    };
+    match read_input(alloc, &mut file, MAX_INDEX) {
+        Ok(bytes) => Ok(bytes),
+        Err(ReadFault::Long) => Err(Unread::Unused("is too long")),
+        Err(ReadFault::Failed) => Err(Unread::Unused("can't be read")),
+        Err(ReadFault::Memory) => Err(Unread::Memory),
+    }
+}
+
+// The index at a path.
+fn read_at<R: Files>(rt: &R, alloc: Global, path: &str) -> Result<MirrorIndex, Unread> {
+    let bytes = bytes_at(rt, alloc, path)?;
+    match read_index(alloc, bytes.as_slice()) {
+        Ok(index) => Ok(index),
+        Err(IndexFault::Line(line)) => Err(Unread::Line(line)),
+        Err(IndexFault::Version) => Err(Unread::Unused("is of another version")),
+        Err(IndexFault::Memory) => Err(Unread::Memory),
+    }
+}
+
+/// What follows if an index can't be used.
+const ALL_ASKED: &str = "each page is requested";
+
+// The index of a folder; an empty one if there is none that can be used, of which a person is told. Fails only if memory runs out.
+fn index_of<R: Files + Wait>(
+    rt: &R,
+    alloc: Global,
+    failures: &SharedFailures,
+    folder: &str,
+) -> Result<MirrorIndex, AllocError> {
+    let path = own_path(alloc, folder, INDEX)?;
+    let path = path.as_str();
+    match read_at(rt, alloc, path) {
+        Ok(index) => return Ok(index),
+        Err(Unread::Nothing) => {}
+        Err(Unread::Unused(why)) => tell(rt, alloc, failures, path, why, ALL_ASKED)?,
+        Err(Unread::Line(line)) => {
+            let why = format!(in alloc; "line {line} is damaged")?;
+            tell(rt, alloc, failures, path, why.as_str(), ALL_ASKED)?;
+        }
+        Err(Unread::Memory) => return Err(AllocError),
+    }
+    Ok(MirrorIndex::new(alloc))
+}
+
+// The entry of a noted page, which has this name.
+fn entry_of(alloc: Global, note: PageNote, name: &str) -> Result<Entry, AllocError> {
+    let name = String::from_str(alloc, name)?;
+    let PageNote {
+        at,
+        len,
+        digest,
+        head,
+    } = note;
+    Ok(Entry::new(at, name, len, digest, head))
+}
+
+// Writes the index of a folder in the run's own directory, and puts it in its place when it is whole.
+fn put_index<R: Files>(
+    rt: &R,
+    alloc: Global,
+    own: &str,
+    path: &str,
+    index: &MirrorIndex,
+) -> io::Result<()>
+where
+    R::File: Close,
+{
+    let part = format!(in alloc; "{own}/index")?;
+    let mut file = File::create_new(rt, part.as_str())?;
+    if write_index(alloc, &mut file, index).is_err() {
+        drop(file);
+        let _ = rt.remove_file(part.as_str());
+        return Err(io::Error::from(ErrorKind::Other));
+    }
+    file.close()?;
+    rt.rename(part.as_str(), path)
+}
+
+// Whether each directory that a name has below a folder is one, and no link.
+fn leads_down<R: Files>(rt: &R, alloc: Global, folder: &str, dirs: &str) -> io::Result<bool> {
+    let mut path = String::from_str(alloc, folder)?;
+    for dir in dirs.split('/') {
+        path.push_str("/")?;
+        path.push_str(dir)?;
+        if !rt.symlink_metadata(path.as_str())?.is_dir() {
+            return Ok(false);
+        }
+    }
+    Ok(true)
+}
+
+// Removes these directories below a folder as far as they are empty, the lowest first.
+fn remove_empty<R: Files>(rt: &R, alloc: Global, folder: &str, dirs: &str) -> io::Result<()> {
+    let mut dirs = dirs;
+    for _ in 0..dirs.len().saturating_add(1) {
+        let path = own_path(alloc, folder, dirs)?;
+        rt.remove_dir(path.as_str())?;
+        match dirs.rsplit_once('/') {
+            Some((above, _)) => dirs = above,
+            None => return Ok(()),
+        }
+    }
+    Ok(())
+}
+
+// Removes the file of a name below a folder, and the directories that are empty then. What is there in place of a file, or of a
+// directory on the way, stays.
+fn remove_name<R: Files>(rt: &R, alloc: Global, folder: &str, name: &str) -> io::Result<()> {
+    let dirs = match name.rsplit_once('/') {
+        Some((dirs, _)) => dirs,
+        None => "",
+    };
+    if !dirs.is_empty() && !leads_down(rt, alloc, folder, dirs)? {
+        return Ok(());
+    }
+    let path = own_path(alloc, folder, name)?;
+    if !rt.symlink_metadata(path.as_str())?.is_file() {
+        return Ok(());
+    }
+    rt.remove_file(path.as_str())?;
+    if !dirs.is_empty() {
+        let _ = remove_empty(rt, alloc, folder, dirs);
+    }
+    Ok(())
+}
+
+// Removes the files of these names below a folder. What isn't there stays so, and each other failure is kept for a person.
+fn remove_all<R: Files + Wait>(
+    rt: &R,
+    alloc: Global,
+    failures: &SharedFailures,
+    folder: &str,
+    names: &[String],
+) {
+    for name in names {
+        let name = name.as_str();
+        match remove_name(rt, alloc, folder, name) {
+            Err(error) if error.kind() != ErrorKind::NotFound => failures.fail(rt, name, &error),
+            _ => {}
+        }
+    }
+}
+
+impl<F: Drop> IndexRun<F> {
+    /// No run has begun yet. Takes no memory.
+    pub fn new(alloc: Global) -> IndexRun<F> {
+        IndexRun {
+            alloc,
+            begun: Mutex::new(None),
+            pages: Mutex::new(Vec::new(alloc)),
+            journal: Mutex::new(Journal::none(alloc)),
+            put: Mutex::new(None),
+        }
+    }
+
+    // What of what was left at the place of the journal is taken, after a person was told if that is nothing.
+    fn usable<R: Wait + Files<File = F>>(
+        &self,
+        rt: &R,
+        failures: &SharedFailures,
+        path: &str,
+        left: Left<F>,
+        upkeep: Upkeep,
+    ) -> Result<Usable<F>, BeginFault>
+        ensures { result ≡ Err Unfit → upkeep.continues ≡ true }
+    {
+        let why = match left {
+            Left::Nothing => return Ok(Usable::Pages(MirrorIndex::new(self.alloc), None)),
+            Left::Pages(pages, file) => return Ok(Usable::Pages(pages, Some(file))),
+            Left::Busy if !upkeep.continues => return Ok(Usable::Theirs),
+            Left::Busy => String::from_str(self.alloc, "is of a run that is at work")?,
+            Left::Unfit(why) => why,
+        };
+        if upkeep.continues {
+            tell(
+                rt,
+                self.alloc,
+                failures,
+                path,
+                why.as_str(),
+                "nothing is requested",
+            )?;
+            return Err(BeginFault::Unfit);
+        }
+        tell(
+            rt,
+            self.alloc,
+            failures,
+            path,
+            why.as_str(),
+            "nothing of it is taken",
+        )?;
+        Ok(Usable::Pages(MirrorIndex::new(self.alloc), None))
+    }
+
+    // The pages of a stopped run, if this one takes anything of them, after what is to be said of them was said to a person. Its own journal
+    // is kept from now on, unless another run that is at work has one there.
+    fn begin_journal<R: Wait + Files<File = F>>(
+        &self,
+        rt: &R,
+        failures: &SharedFailures,
+        folder: &str,
+        order: &Order,
+    ) -> Result<MirrorIndex, BeginFault>
+    where
+        F: Lock,
+        ensures { result ≡ Err Unfit → order.now.upkeep.continues ≡ true }
+    {
+        let path = own_path(self.alloc, folder, JOURNAL)?;
+        let plan = &order.plan;
+        let first = first_line(self.alloc, &plan.start, plan.others.as_slice())?;
+        let left = left_at(rt, self.alloc, path.as_str(), first.as_slice())?;
+        let (pages, left) = match self.usable(rt, failures, path.as_str(), left, order.upkeep)? {
+            Usable::Pages(pages, file) => (pages, file),
+            Usable::Theirs => return Ok(MirrorIndex::new(self.alloc)),
+        };
+        if left.is_some() && takes_nothing(order.upkeep) {
+            let count = pages.len();
+            let why = format!(in self.alloc; "a run that was stopped left {count} pages")?;
+            tell(
+                rt,
+                self.alloc,
+                failures,
+                path.as_str(),
+                why.as_str(),
+                "-c goes on with it",
+            )?;
+        }
+        let journal = if takes_nothing(order.upkeep) {
+            Journal::left_alone(self.alloc, path, left)
+        } else if order.upkeep.continues {
+            Journal::of(path, first, left).going_on(self.alloc, &pages)?
+        } else {
+            Journal::of(path, first, left)
+        };
+        set_journal(&mut self.journal.lock(rt), journal);
+        Ok(pages)
+    }
+
+    // What is known of earlier runs' pages below a folder, by these of one that was stopped and by the index.
+    fn earlier_of<R: Wait + Files<File = F>>(
+        &self,
+        rt: &R,
+        failures: &SharedFailures,
+        folder: &str,
+        upkeep: Upkeep,
+        stopped: MirrorIndex,
+    ) -> Result<Arc<Earlier>, AllocError> {
+        let index = if keeps_index(upkeep) {
+            let index = index_of(rt, self.alloc, failures, folder)?;
+            joined(self.alloc, &index, &stopped)?
+        } else if upkeep.continues {
+            stopped
+        } else {
+            MirrorIndex::new(self.alloc)
+        };
+        let folder = String::from_str(self.alloc, folder)?;
+        let earlier = Earlier {
+            pages: EarlierPages::new(self.alloc, folder, index),
+            is_asked: upkeep.timestamps,
+        };
+        in_common(self.alloc, earlier)
+    }
+
+    /// A run of this order begins. From now on a journal of it is kept below its folder. The pages of the one that is there, if the order
+    /// goes on with it or keeps an index, and of the index, if it keeps one, are requested only to see if they changed, or not at all, as
+    /// the order says, if their files are as they were. If the index can't be used a person is told. What can't be gone on with is a fault
+    /// only if the order goes on with it.
+    pub(crate) fn begin<R: Wait + Files<File = F>>(
+        &self,
+        rt: &R,
+        failures: &SharedFailures,
+        order: &Order,
+    ) -> Result<(), BeginFault>
+    where
+        F: Lock,
+        ensures { result ≡ Err Unfit → order.now.upkeep.continues ≡ true }
+    {
+        let upkeep = order.upkeep;
+        let folder = String::from_str(self.alloc, order.prefix.as_str())?;
+        let stopped = self.begin_journal(rt, failures, folder.as_str(), order)?;
+        let earlier = self.earlier_of(rt, failures, folder.as_str(), upkeep, stopped)?;
+        let begun = Begun {
+            folder,
+            upkeep,
+            backs_up: order.backs_up,
+            by_name: places_by_name(self.alloc, earlier.pages.index().entries())?,
+            earlier,
+        };
+        let begun = in_common(self.alloc, begun)?;
+        set(&mut self.begun.lock(rt), begun);
+        Ok(())
+    }
+
+    /// What is known of earlier runs' pages, once a run began that takes of it or leaves for later ones. Without it no body is digested,
+    /// which would cost a third of a run.
+    pub(crate) fn earlier<R: Wait>(&self, rt: &R) -> Option<Arc<Earlier>> {
+        let begun = shared(&mut self.begun.lock(rt))?;
+        if takes_nothing(begun.upkeep) {
+            return None;
+        }
+        Arc::try_clone(&begun.earlier).ok()
+    }
+
+    /// Whether the page of an address may have this name early: not if an earlier run gave it to another page, whose file may be read yet.
+    pub(crate) fn may_name<R: Wait>(&self, rt: &R, at: &Address, name: &str) -> bool {
+        let begun = shared(&mut self.begun.lock(rt));
+        match begun {
+            Some(begun) => {
+                let entries = begun.earlier.pages.index().entries();
+                !is_anothers(entries, begun.by_name.as_slice(), name, at)
+            }
+            None => true,
+        }
+    }
+
+    // Notes a page that has this name early, if it has one.
+    fn try_note<R: Wait + Files<File = F>>(
+        &self,
+        rt: &R,
+        own: &str,
+        note: PageNote,
+        name: Option<&str>,
+    ) -> io::Result<()>
+    where
+        F: Write + Lock,
+    {
+        let entry = entry_of(self.alloc, note, name.unwrap_or(""))?;
+        if name.is_some() {
+            self.journal.lock(rt).add(rt, self.alloc, own, &entry)?;
+        }
+        let begun = shared(&mut self.begun.lock(rt));
+        match begun {
+            Some(begun) if keeps_index(begun.upkeep) => Ok(push(&mut self.pages.lock(rt), entry)?),
+            _ => Ok(()),
+        }
+    }
+
+    /// Notes a page that has this name early, if it has one, for the journal and for the index; `own` is the run's own directory. A page
+    /// that can't be noted is requested by the next run, too.
+    pub(crate) fn note<R: Wait + Files<File = F>>(
+        &self,
+        rt: &R,
+        failures: &SharedFailures,
+        own: &str,
+        note: PageNote,
+        name: Option<&str>,
+    )
+    where
+        F: Write + Lock,
+    {
+        if let Err(error) = self.try_note(rt, own, note, name) {
+            failures.fail(rt, JOURNAL, &error);
+        }
+    }
+
+    /// The pages of a harvest are to be put under these names: files of earlier runs that an index names give way, if one is kept.
+    pub(crate) fn make_way<R: Wait + Files>(
+        &self,
+        rt: &R,
+        failures: &SharedFailures,
+        names: &[String],
+        harvest: &Harvest<Part>,
+    ) -> Result<(), AllocError> {
+        let Some(begun) = shared(&mut self.begun.lock(rt)) else {
+            return Ok(());
+        };
+        if !keeps_index(begun.upkeep) || begun.earlier.pages.index().len() == 0 {
+            return Ok(());
+        }
+        let earlier = begun.earlier.pages.index().entries();
+        let gone = in_way(self.alloc, earlier, names, harvest.kept(), begun.backs_up)?;
+        let folder = begun.folder.as_str();
+        remove_all(rt, self.alloc, failures, folder, gone.as_slice());
+        Ok(())
+    }
+
+    /// All pages of a harvest were put under these names. If there is no memory to know, no index is written.
+    pub(crate) fn note_put<R: Wait>(
+        &self,
+        rt: &R,
+        names: &[String],
+        harvest: &Harvest<Part>,
+    ) -> Result<(), AllocError> {
+        let Some(begun) = shared(&mut self.begun.lock(rt)) else {
+            return Ok(());
+        };
+        let pages = take(self.alloc, &mut self.pages.lock(rt));
+        let removes = begun.upkeep.deletes_gone;
+        let earlier = begun.earlier.pages.index();
+        let put = Put {
+            pages: named_pages(self.alloc, pages.as_slice(), harvest.kept(), names)?,
+            gone: match removes {
+                true => gone(self.alloc, earlier.entries(), names, begun.backs_up)?,
+                false => Vec::new(self.alloc),
+            },
+            is_sure: removes && is_sure(harvest, earlier),
+        };
+        set(&mut self.put.lock(rt), put);
+        Ok(())
+    }
+
+    // Writes the index of what was put, after the files of gone pages were removed, if that is to be done.
+    fn end_index<R: Wait + Files>(
+        &self,
+        rt: &R,
+        failures: &SharedFailures,
+        own: &str,
+        begun: &Begun,
+        put: &Put,
+        is_whole: bool,
+    ) -> io::Result<()>
+    where
+        R::File: Close,
+    {
+        let folder = begun.folder.as_str();
+        let removes = begun.upkeep.deletes_gone && is_whole;
+        if removes && !put.is_sure {
+            failures.say(rt, "files of gone pages stay: not all was answered\n");
+        }
+        let index = if removes && put.is_sure {
+            remove_all(rt, self.alloc, failures, folder, put.gone.as_slice());
+            joined(self.alloc, &MirrorIndex::new(self.alloc), &put.pages)?
+        } else {
+            joined(self.alloc, begun.earlier.pages.index(), &put.pages)?
+        };
+        let path = own_path(self.alloc, folder, INDEX)?;
+        put_index(rt, self.alloc, own, path.as_str(), &index)
+    }
+
+    /// The run has ended, and with all that was to be retrieved if that is said. If all its files were put the index is written, if one is
+    /// kept; `own` is the run's own directory. After all was retrieved the journal is removed. Failures are kept for a person.
+    pub(crate) fn end<R: Wait + Files<File = F>>(
+        &self,
+        rt: &R,
+        failures: &SharedFailures,
+        own: &str,
+        is_whole: bool,
+    )
+    where
+        F: Close,
+    {
+        let Some(put) = take_put(&mut self.put.lock(rt)) else {
+            return;
+        };
+        let Some(begun) = shared(&mut self.begun.lock(rt)) else {
+            return;
+        };
+        // Without a directory of its own the run has kept nothing, and what there was stays as it is.
+        if keeps_index(begun.upkeep) && !own.is_empty() {
+            if let Err(error) = self.end_index(rt, failures, own, &begun, &put, is_whole) {
+                failures.fail(rt, INDEX, &error);
+            }
+        }
+        if is_whole {
+            self.journal.lock(rt).remove(rt);
+        }
+    }
+}

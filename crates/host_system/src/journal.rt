@@ -1,0 +1,211 @@
+//! The journal of a run, below its folder: the pages whose files are there already, so that another run goes on if this one is stopped.
+//! Its first line has its version and the STARTs, and each further one is an entry as the index has them, added in one write.
+use mirror_index::{Entry, MAX_INDEX, MirrorIndex};
+use mirror_upkeep::{push_entry, read_journal, reason};
+use std::alloc::{AllocError, Global};
+use std::fs::{File, Files};
+use std::io;
+use std::io::{ErrorKind, Write};
+use streams::{Close, Lock, ReadFault, read_input};
+
+/// What it is called, directly below the folder. No page has a name that begins so.
+pub(crate) const JOURNAL: &str = ".wgetr%journal";
+
+/// What an earlier run left at the place of a journal.
+pub(crate) enum Left<F> {
+    /// Nothing.
+    Nothing,
+    /// These pages, and the journal, which this run holds.
+    Pages(MirrorIndex, F),
+    /// Nothing that can be gone on with, and why.
+    Unfit(String),
+    /// The journal of a run that is at work.
+    Busy,
+}
+
+// Nothing that can be gone on with, for this reason.
+fn unfit<F>(alloc: Global, why: &str) -> Result<Left<F>, AllocError> {
+    Ok(Left::Unfit(String::from_str(alloc, why)?))
+}
+
+// The pages of an open journal that begins with this line, and which this run holds.
+fn pages_in<F: io::Read + Drop>(
+    alloc: Global,
+    file: F,
+    first: &[u8],
+) -> Result<Left<F>, AllocError> {
+    let mut file = file;
+    let bytes = match read_input(alloc, &mut file, MAX_INDEX) {
+        Ok(bytes) => bytes,
+        Err(ReadFault::Long) => return unfit(alloc, "is too long"),
+        Err(ReadFault::Failed) => return unfit(alloc, "can't be read"),
+        Err(ReadFault::Memory) => return Err(AllocError),
+    };
+    match read_journal(alloc, bytes.as_slice(), first) {
+        Ok(pages) => Ok(Left::Pages(pages, file)),
+        Err(fault) => Ok(Left::Unfit(reason(alloc, fault)?)),
+    }
+}
+
+/// Whether an error says that nothing is at a path.
+pub(crate) fn is_nothing(error: &io::Error) -> bool {
+    matches!(error.kind(), ErrorKind::NotFound | ErrorKind::NotADirectory)
+}
+
+/// What an earlier run left at a path, for a run whose journal begins with this line.
+pub(crate) fn left_at<R: Files>(
+    rt: &R,
+    alloc: Global,
+    path: &str,
+    first: &[u8],
+) -> Result<Left<R::File>, AllocError>
+where
+    R::File: Lock,
+{
+    match rt.symlink_metadata(path) {
+        Ok(found) if found.is_file() => {}
+        Err(e) if is_nothing(&e) => return Ok(Left::Nothing),
+        _ => return unfit(alloc, "isn't a file"),
+    }
+    let Ok(file) = File::open(rt, path) else {
+        return unfit(alloc, "can't be read");
+    };
+    // A system without such locks has one run at a time there.
+    if !file.hold().unwrap_or(true) {
+        return Ok(Left::Busy);
+    }
+    pages_in(alloc, file, first)
+}
+
+/// The journal of a run, to which its workers add under a lock.
+#[derive(Drop)]
+pub(crate) struct Journal<F: Drop> {
+    path: String,
+    // Whether pages are added.
+    is_open: bool,
+    // What it begins with.
+    front: Vec<u8>,
+    // The one that was left at its place, which is held until it is replaced.
+    left: Option<F>,
+    // Whether that is removed at the end, if this run has none of its own.
+    continues: bool,
+    // None before the first page.
+    file: Option<F>,
+}
+
+// Makes a journal at a path, with this front, by way of a file in the run's own directory. It takes the place of what is there.
+fn make<R: Files>(rt: &R, alloc: Global, own: &str, path: &str, front: &[u8]) -> io::Result<R::File>
+where
+    R::File: Lock,
+{
+    let part = format!(in alloc; "{own}/journal")?;
+    let mut file = File::create_new(rt, part.as_str())?;
+    file.hold()?;
+    file.write_all(front)?;
+    rt.rename(part.as_str(), path)?;
+    Ok(file)
+}
+
+impl<F: Drop> Journal<F> {
+    /// None is kept. Takes no memory.
+    pub(crate) fn none(alloc: Global) -> Journal<F> {
+        Journal {
+            path: String::new(alloc),
+            is_open: false,
+            front: Vec::new(alloc),
+            left: None,
+            continues: false,
+            file: None,
+        }
+    }
+
+    /// One at this path that begins with this line, in place of the one that was left there, which is held until then.
+    pub(crate) fn of(path: String, first: Vec<u8>, left: Option<F>) -> Journal<F> {
+        Journal {
+            path,
+            is_open: true,
+            front: first,
+            left,
+            continues: false,
+            file: None,
+        }
+    }
+
+    /// The one that was left at this path, to which nothing is added. It is held, and removed if the run ends well.
+    pub(crate) fn left_alone(alloc: Global, path: String, left: Option<F>) -> Journal<F> {
+        Journal {
+            path,
+            is_open: false,
+            front: Vec::new(alloc),
+            left,
+            continues: true,
+            file: None,
+        }
+    }
+
+    /// The same, which begins with these pages of the one that was left, too.
+    pub(crate) fn going_on(
+        self,
+        alloc: Global,
+        pages: &MirrorIndex,
+    ) -> Result<Journal<F>, AllocError> {
+        let mut journal = self;
+        for entry in pages.entries() {
+            push_entry(alloc, &mut journal.front, entry)?;
+        }
+        journal.continues = true;
+        Ok(journal)
+    }
+
+    /// Adds an entry, by way of the run's own directory if it is the first. After an error nothing more is added.
+    pub(crate) fn add<R: Files<File = F>>(
+        &mut self,
+        rt: &R,
+        alloc: Global,
+        own: &str,
+        entry: &Entry,
+    ) -> io::Result<()>
+    where
+        F: Write + Lock,
+    {
+        if !self.is_open {
+            return Ok(());
+        }
+        let added = self.try_add(rt, alloc, own, entry);
+        self.is_open = added.is_ok();
+        added
+    }
+
+    fn try_add<R: Files<File = F>>(
+        &mut self,
+        rt: &R,
+        alloc: Global,
+        own: &str,
+        entry: &Entry,
+    ) -> io::Result<()>
+    where
+        F: Write + Lock,
+    {
+        let mut line = Vec::new(alloc);
+        push_entry(alloc, &mut line, entry)?;
+        if let Some(file) = &mut self.file {
+            return file.write_all(line.as_slice());
+        }
+        let mut file = make(rt, alloc, own, self.path.as_str(), self.front.as_slice())?;
+        self.left = None;
+        self.front = Vec::new(alloc);
+        let added = file.write_all(line.as_slice());
+        self.file = Some(file);
+        added
+    }
+
+    /// Takes it away, and the one that it goes on from: the run has ended well.
+    pub(crate) fn remove<R: Files<File = F>>(&mut self, rt: &R) {
+        if self.file.is_some() || (self.continues && self.left.is_some()) {
+            let _ = rt.remove_file(self.path.as_str());
+        }
+        self.is_open = false;
+        self.file = None;
+        self.left = None;
+    }
+}

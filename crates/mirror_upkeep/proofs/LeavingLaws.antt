@@ -1,0 +1,45 @@
+-- The files that go are the same for other lists of the same names.
+use Rattle.std.proofs.Common.{◌≡◌, ◌∙◌, ◌&&◌, ◌||◌, Bool, true, false, not, List, [], ◌∷◌, ◌++◌, cond, codes, refl, sym, ap}
+use Rattle.std.specs.List.{filter, list_any}
+use Rattle.std.specs.List.Sorted.{IsPermutation}
+use Rattle.std.proofs.lemmas.List.Elements.{filter_agree}
+use Rattle.std.proofs.lemmas.List.Sorted.{list_any-IsPermutation}
+use Rattle.address.specs.Address.{AddressText}
+use Rattle.mirror_index.specs.Entries.{Entry, Text}
+use Rattle.mirror_upkeep.specs.Leaving.{files, files_of, is_gone, is_to_go, other_name}
+use Rattle.mirror_upkeep.specs.Names.{has_name, is_directory_of, is_in_way}
+use Rattle.mirror_upkeep.proofs.NameLaws.{has_moved}
+
+module _ (xs ys : List Text) (moved : IsPermutation ys xs) where
+  same_has : (name : Text) → has_name xs name ≡ has_name ys name
+  same_has name = sym (has_moved ys xs name moved)
+
+  same_other : (name : Text) → other_name xs name ≡ other_name ys name
+  same_other name = ap (λ (b : Bool). cond b [] (name ∷ [])) (same_has name)
+
+  same_of : (backs_up : Bool) (name : Text) → files_of backs_up xs name ≡ files_of backs_up ys name
+  same_of true name = ap (λ (ns : List Text). ns ++ other_name xs name) (same_other (name ++ codes ".orig")) ∙ ap (λ (ns : List Text). other_name ys (name ++ codes ".orig") ++ ns) (same_other name)
+  same_of false name = same_other name
+
+  same_files : (backs_up : Bool) (es : List Entry) → files backs_up xs es ≡ files backs_up ys es
+  same_files backs_up [] = refl
+  same_files backs_up (e ∷ es) =
+      ap (λ (ns : List Text). ns ++ files backs_up xs es) (same_of backs_up e.name) ∙ ap (λ (ns : List Text). files_of backs_up ys e.name ++ ns) (same_files backs_up es)
+
+  same_gone : (e : Entry) → is_gone xs e ≡ is_gone ys e
+  same_gone e = ap not (same_has e.name)
+
+  same_way : (name : Text) → is_in_way xs name ≡ is_in_way ys name
+  same_way name =
+      ap (λ (b : Bool). b || list_any (λ other. is_directory_of other name) xs) (sym (list_any-IsPermutation (is_directory_of name) ys xs moved))
+      ∙ ap (λ (b : Bool). list_any (is_directory_of name) ys || b) (sym (list_any-IsPermutation (λ other. is_directory_of other name) ys xs moved))
+
+  same_to_go : (kept : List AddressText) (e : Entry) → is_to_go xs kept e ≡ is_to_go ys kept e
+  same_to_go kept e =
+      ap (λ (b : Bool). b && (has_name kept e.address || is_in_way xs e.name)) (same_gone e) ∙ ap (λ (b : Bool). is_gone ys e && (has_name kept e.address || b)) (same_way e.name)
+
+  pub gone_moved : (backs_up : Bool) (es : List Entry) → files backs_up xs (filter (is_gone xs) es) ≡ files backs_up ys (filter (is_gone ys) es)
+  gone_moved backs_up es = same_files backs_up (filter (is_gone xs) es) ∙ ap (files backs_up ys) (filter_agree (is_gone xs) (is_gone ys) same_gone es)
+
+  pub way_moved : (backs_up : Bool) (kept : List AddressText) (es : List Entry) → files backs_up xs (filter (is_to_go xs kept) es) ≡ files backs_up ys (filter (is_to_go ys kept) es)
+  way_moved backs_up kept es = same_files backs_up (filter (is_to_go xs kept) es) ∙ ap (files backs_up ys) (filter_agree (is_to_go xs kept) (is_to_go ys kept) (same_to_go kept) es)

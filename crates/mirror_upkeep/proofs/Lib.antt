@@ -1,0 +1,6 @@
+pub mod LatestLaws
+pub mod TakingLaws
+pub mod ReadingLaws
+pub mod NameLaws
+pub mod LeavingLaws
+pub mod ByNameLaws

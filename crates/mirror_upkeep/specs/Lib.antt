@@ -1,0 +1,9 @@
+pub mod ByName
+pub mod Joined
+pub mod Journals
+pub mod Latest
+pub mod Leaving
+pub mod Names
+pub mod Reasons
+pub mod Sure
+pub mod inner

@@ -1,0 +1,165 @@
+//! Which files of an earlier run go.
+ghost use Rattle.std.specs.Prelude.{◌≡◌, ◌++◌, IfOk, OnOk, map, string_bytes};
+ghost use Rattle.std.specs.List.{filter};
+ghost use Rattle.std.specs.List.Sorted.{IsSorted};
+ghost use Rattle.address.specs.AddressOrder.{IsAscending};
+ghost use Rattle.mirror_upkeep.specs.Leaving.{files, files_of, is_gone, is_to_go, other_name};
+ghost use Rattle.mirror_upkeep.specs.Names.{has_name, is_in_way};
+ghost use Rattle.mirror_upkeep.specs.inner.Lent.{lent_text, text_cmp};
+
+use crate::names::{has_below, in_order, is_among, is_below};
+use address::Address;
+use mirror_index::Entry;
+use std::alloc::{AllocError, Global};
+
+// Adds a name, unless it is one of these, which are in order.
+fn push_other(
+    alloc: Global,
+    leaving: &mut Vec<String>,
+    names: &[&[u8]],
+    name: &str,
+) -> Result<(), AllocError>
+    requires { IsSorted text_cmp names.now }
+    ensures { OnOk result (map string_bytes leaving.new.items ≡ map string_bytes leaving.old.items ++ other_name (map lent_text names.now) name.now) }
+{
+    if !is_among(names, name.as_bytes()) {
+        leaving.push(String::from_str(alloc, name)?)?;
+    }
+    Ok(())
+}
+
+// Adds the names of the files of a page that has this name: of its body as it came, if such are kept, and of its file. Those of this
+// run, which are in order, aren't added.
+fn push_files(
+    alloc: Global,
+    leaving: &mut Vec<String>,
+    names: &[&[u8]],
+    name: &str,
+    backs_up: bool,
+) -> Result<(), AllocError>
+    requires { IsSorted text_cmp names.now }
+    ensures { OnOk result (map string_bytes leaving.new.items ≡ map string_bytes leaving.old.items ++ files_of backs_up (map lent_text names.now) name.now) }
+{
+    if backs_up {
+        let beside = format!(in alloc; "{name}.orig")?;
+        push_other(alloc, leaving, names, beside.as_str())?;
+    }
+    push_other(alloc, leaving, names, name)
+}
+
+// The names of the files of entries whose names aren't among these, which are in order.
+fn gone_beside(
+    alloc: Global,
+    earlier: &[Entry],
+    names: &[&[u8]],
+    backs_up: bool,
+) -> Result<Vec<String>, AllocError>
+    requires { IsSorted text_cmp names.now }
+    ensures { IfOk result (λ leaving. map string_bytes leaving.items ≡ files backs_up (map lent_text names.now) (filter (is_gone (map lent_text names.now)) earlier.now)) }
+{
+    let mut leaving = Vec::new(alloc);
+    let mut rest = earlier;
+    'entries: while let Some((entry, later)) = rest.split_first() {
+        if !is_among(names, entry.name().as_bytes()) {
+            push_files(alloc, &mut leaving, names, entry.name(), backs_up)?;
+        }
+        rest = later;
+    }
+    Ok(leaving)
+}
+
+/// The names of the files of an earlier run's pages whose names this run doesn't give, each after that of its body as it came, if such
+/// are kept. Fails only if memory runs out.
+pub fn gone(
+    alloc: Global,
+    earlier: &[Entry],
+    names: &[String],
+    backs_up: bool,
+) -> Result<Vec<String>, AllocError>
+    ensures { IfOk result (λ leaving. map string_bytes leaving.items ≡ files backs_up (map string_bytes names.now) (filter (is_gone (map string_bytes names.now)) earlier.now)) }
+{
+    let sorted = in_order(alloc, names)?;
+    gone_beside(alloc, earlier, sorted.as_slice(), backs_up)
+}
+
+// Whether a file of this name can't be where it is beside files of these names, which are in order: one of them is a directory of the
+// other.
+fn is_in_way(alloc: Global, names: &[&[u8]], name: &str) -> Result<bool, AllocError>
+    requires { IsSorted text_cmp names.now }
+    ensures { IfOk result (λ is. is ≡ is_in_way (map lent_text names.now) name.now) }
+{
+    if is_below(names, name.as_bytes()) {
+        return Ok(true);
+    }
+    has_below(alloc, names, name)
+}
+
+// Whether an address is one of these, which are in order.
+fn is_kept(kept: &[Address], at: &Address) -> bool
+    requires { IsAscending kept.now }
+    ensures { result ≡ has_name kept.now at.now }
+{
+    kept.binary_search(at).is_ok()
+}
+
+// Whether an entry's file is to go before files of these names, which are in order, are put: the page is kept under another name, or the
+// file is in the way.
+fn is_to_go(
+    alloc: Global,
+    entry: &Entry,
+    names: &[&[u8]],
+    kept: &[Address],
+) -> Result<bool, AllocError>
+    requires names { IsSorted text_cmp names.now }
+    requires kept { IsAscending kept.now }
+    ensures { IfOk result (λ is. is ≡ is_to_go (map lent_text names.now) kept.now entry.now) }
+{
+    if is_among(names, entry.name().as_bytes()) {
+        return Ok(false);
+    }
+    if is_kept(kept, entry.address()) {
+        return Ok(true);
+    }
+    is_in_way(alloc, names, entry.name())
+}
+
+// The names of the files of entries that are to go before files of these names, which are in order, are put.
+fn in_way_of(
+    alloc: Global,
+    earlier: &[Entry],
+    names: &[&[u8]],
+    kept: &[Address],
+    backs_up: bool,
+) -> Result<Vec<String>, AllocError>
+    requires names { IsSorted text_cmp names.now }
+    requires kept { IsAscending kept.now }
+    ensures { IfOk result (λ leaving. map string_bytes leaving.items ≡ files backs_up (map lent_text names.now) (filter (is_to_go (map lent_text names.now) kept.now) earlier.now)) }
+{
+    let mut leaving = Vec::new(alloc);
+    let mut rest = earlier;
+    'entries: while let Some((entry, later)) = rest.split_first() {
+        let goes = is_to_go(alloc, entry, names, kept)?;
+        if goes {
+            push_files(alloc, &mut leaving, names, entry.name(), backs_up)?;
+        }
+        rest = later;
+    }
+    Ok(leaving)
+}
+
+/// The names of the files of an earlier run's pages that are to go before this run's are put: those of pages that are kept under other
+/// names, and those that are in the way, since one name is a directory of the other. None is a name of this run. Each is after that of
+/// its body as it came, if such are kept. The addresses of the kept pages are in order. Fails only if memory runs out.
+pub fn in_way(
+    alloc: Global,
+    earlier: &[Entry],
+    names: &[String],
+    kept: &[Address],
+    backs_up: bool,
+) -> Result<Vec<String>, AllocError>
+    requires { IsAscending kept.now }
+    ensures { IfOk result (λ leaving. map string_bytes leaving.items ≡ files backs_up (map string_bytes names.now) (filter (is_to_go (map string_bytes names.now) kept.now) earlier.now)) }
+{
+    let sorted = in_order(alloc, names)?;
+    in_way_of(alloc, earlier, sorted.as_slice(), kept, backs_up)
+}

@@ -1,0 +1,153 @@
+-- What is received is the same without the digests of its bodies, and a page is answered by what an earlier run has of it.
+use Rattle.std.proofs.Common.{◌≡◌, ◌⊎◌, ◌∙◌, ◌≤◌, ℕ, suc, true, false, inl, inr, List, [], ◌∷◌, length, Option, Some, None, refl, sym, ap, subst}
+use Rattle.std.specs.Prelude.{IfOk, IfSome, OnErr, OnOk, Result, Ok, Err}
+use Rattle.sha2.specs.Sha256.{sha256}
+use Rattle.address.specs.Address.{AddressText}
+use Rattle.body_digests.specs.Digests.{HoldsDigested}
+use Rattle.body_digests.specs.declared.digesting.Digested.{Digested}
+use Rattle.fetcher.specs.declared.answer.Answer.{Answer}
+use Rattle.fetcher.specs.declared.fetcher.Ask.{Ask}
+use Rattle.html_links.specs.declared.rules.LinkRules.{LinkRules}
+use Rattle.http_fetcher.specs.Fetching.{Fetching, StandsForOne, with_condition}
+use Rattle.http_fetcher.specs.Meanings.{MayAnswerWithin}
+use Rattle.mirror_index.specs.Entries.{Entry}
+use Rattle.mirror_index.specs.Indexes.{HasThis}
+use Rattle.part_keeper.specs.Parts.{holds_part}
+use Rattle.part_keeper.specs.declared.part.Part.{Part}
+use Rattle.pacing.specs.Retries.{Retried}
+use Rattle.requests.specs.Conditions.{Condition}
+use Rattle.requests.specs.Requests.{Sending}
+use Rattle.response_reader.specs.Limits.{Limited}
+use Rattle.retries.specs.Keeping.{MayKeep, StandsForAnswer, asks_of, is_worth_answer}
+use Rattle.retries.specs.Tries.{AreTries, IsLastOf}
+use Rattle.tcp_connect.specs.Connecting.{Connecting}
+use Rattle.tcp_fetcher.specs.Answering.{IsAnswered, IsAnsweredBy, IsLeft, IsOfEarlier, IsReceived, IsReceivedIfChanged, IsReceivedUnder, IsRecorded, IsTold, Lasting, has_status, lasting, not_received, site_of, without_digest}
+use Rattle.tcp_fetcher.specs.TcpFetching.{TcpFetching, conditioned}
+use Rattle.tcp_fetcher.specs.PartsFetching.{MayAnswerIn}
+use Rattle.tcp_fetcher.specs.declared.earlier.Earlier.{Earlier}
+
+-- what follows for a value
+pub if_ok_map : {A E : Type 0} (r : Result A E) (P Q : A → Type 0) → IfOk r P → ((a : A) → P a → Q a) → IfOk r Q
+if_ok_map (Ok a) P Q p follows = follows a p
+if_ok_map (Err e) P Q p follows = tt
+
+-- what holds whatever is returned
+pub on_ok : {A E P : Type 0} (r : Result A E) → P → OnOk r P
+on_ok (Ok a) p = p
+on_ok (Err e) p = tt
+
+pub on_err : {A E P : Type 0} (r : Result A E) → P → OnErr r P
+on_err (Ok a) p = tt
+on_err (Err e) p = p
+
+-- one condition is as good as another once there is none
+pub forgotten : (condition : Option Condition) (sends : Option Sending) → with_condition None (with_condition condition sends) ≡ with_condition None sends
+forgotten condition None = refl
+forgotten condition (Some sends) = refl
+
+-- an answer with a digest represents what it represents without
+pub stands_without : (limits : Limited) (links : LinkRules) (at : AddressText) (answer : Answer (Digested Part))
+    → StandsForAnswer (HoldsDigested holds_part) limits links at answer → StandsForAnswer holds_part limits links at (without_digest answer)
+stands_without limits links at answer (real, (outcome, (holds, digest)), may) = (real, (outcome, holds), may)
+
+module _ {C : Type 0} (limits : Limited) (at : AddressText) (retries : Retried) (ask : Ask) where
+  bare : List (Answer (Digested Part) × Fetching C) → List (Answer Part × Fetching C)
+  bare [] = []
+  bare (e ∷ es) = (without_digest e.0, e.1) ∷ bare es
+
+  bare_length : (es : List (Answer (Digested Part) × Fetching C)) → length (bare es) ≡ length es
+  unfolding bare
+  bare_length [] = refl
+  bare_length (e ∷ es) = ap suc (bare_length es)
+
+  tries_without : (old : Fetching C) (earlier : List (Answer (Digested Part) × Fetching C)) (new : Fetching C) (answer : Answer (Digested Part))
+      → AreTries asks_of (MayKeep (HoldsDigested holds_part) limits at) (is_worth_answer retries) ask old earlier new answer
+      → AreTries asks_of (MayKeep holds_part limits at) (is_worth_answer retries) ask old (bare earlier) new (without_digest answer)
+  unfolding bare
+  tries_without old [] new answer tries = (tries.0, stands_without limits old.links at answer tries.1)
+  tries_without old (e ∷ es) new answer tries =
+      ((tries.0.0, stands_without limits old.links at e.0 tries.0.1), tries.1, tries_without e.1 es new answer tries.2)
+
+  -- what is received last is so without its digest
+  pub last_without : (most : ℕ) (old new : Fetching C) (answer : Answer (Digested Part))
+      → IsLastOf asks_of (MayKeep (HoldsDigested holds_part) limits at) (is_worth_answer retries) ask most old new answer
+      → IsLastOf asks_of (MayKeep holds_part limits at) (is_worth_answer retries) ask most old new (without_digest answer)
+  last_without most old new answer (earlier, tries, few, inl worthless) =
+      (bare earlier, tries_without old earlier new answer tries, subst (λ n. n ≤ most) (sym (bare_length earlier)) few, inl worthless)
+  last_without most old new answer (earlier, tries, few, inr all) =
+      (bare earlier, tries_without old earlier new answer tries, subst (λ n. n ≤ most) (sym (bare_length earlier)) few, inr (bare_length earlier ∙ all))
+
+-- an answer of the recorded status, whose body has the recorded digest, and is read from an earlier run's file
+pub recorded : (limits : Limited) (links : LinkRules) (at : AddressText) (entry : Entry) (answer : Answer (Digested Part)) (digest : List ℕ) (status : ℕ)
+    → digest ≡ entry.digest → status ≡ entry.head.status
+    → (answer.body.digest ≡ Some digest) × (has_status answer.outcome status ≡ true)
+    → StandsForAnswer (HoldsDigested holds_part) limits links at answer
+    → (has_status answer.outcome entry.head.status ≡ true)
+    × ((not_received (without_digest answer)).body.is_received ≡ false)
+    × StandsForOne holds_part (not_received (without_digest answer)) (λ real. MayAnswerWithin limits links at real.outcome real.body × (sha256 real.body.bytes ≡ entry.digest))
+recorded limits links at entry answer digest status same_digest same_status (own, says) (real, (outcome, (holds, of_body)), may) =
+    let known : digest ≡ sha256 real.body.bytes = subst (λ (d : Option (List ℕ)). IfSome d (λ x. x ≡ sha256 real.body.bytes)) own of_body in
+    (subst (λ s. has_status answer.outcome s ≡ true) same_status says, refl, (real, (outcome, holds), (may, sym known ∙ same_digest)))
+
+-- it is one that the site may give
+pub may_recorded : (fetcher : Lasting) (at : AddressText) (entry : Entry) (answer : Answer Part) → IsRecorded fetcher at entry answer → MayAnswerIn (site_of fetcher) at answer.outcome answer.body
+may_recorded fetcher at entry answer (says, left, (real, kept, (may, digest))) = (real, kept, may)
+
+module _ (fetcher : Lasting) (at : AddressText) (old new : Fetching Connecting) (answer : Answer Part) where
+  -- what is received over the network is answered, whatever is known
+  pub answered_anew : (known : Option Earlier) → IsReceived fetcher at old new answer → IsAnsweredBy fetcher at known old new answer
+  answered_anew None received = received
+  answered_anew (Some earlier) received = inl received
+
+  -- and what is answered by what is known
+  pub answered_by : (known : Option Earlier) (earlier : Earlier) → known ≡ Some earlier
+      → IsReceived fetcher at old new answer ⊎ IsOfEarlier fetcher at earlier old new answer → IsAnsweredBy fetcher at known old new answer
+  answered_by known earlier is answered = subst (λ k. IsAnsweredBy fetcher at k old new answer) (sym is) answered
+
+-- what is received with a condition, if that is set before and taken away after
+pub received_under : {E : Type 0} (known : Option Earlier) (inner set : TcpFetching) (condition : Condition) (at : AddressText) (r : Result (Answer Part) E) (left : Fetching Connecting)
+    → set ≡ record inner { sends = with_condition (Some condition) inner.sends; single = conditioned (Some condition) inner.single }
+    → IfOk r (IsTold (lasting (record set { known = known })) at (IsReceived (lasting (record set { known = known })) at set.single left))
+    → IfOk r (IsTold (lasting (record inner { known = known })) at (IsReceivedUnder (lasting (record inner { known = known })) at condition inner.single (conditioned None left)))
+received_under known inner set condition at r left is received =
+    if_ok_map r _ _ (subst (λ (f : TcpFetching). IfOk r (IsTold (lasting (record f { known = known })) at (IsReceived (lasting (record f { known = known })) at f.single left))) is received)
+    (λ a told. (told.0, (left, told.1, refl)))
+
+-- what is answered by an entry is answered by what is known
+module _ (fetcher : Lasting) (at : AddressText) (old new : Fetching Connecting) (earlier : Earlier) (entry : Entry) where
+  of_changed : (a : Answer Part) → HasThis earlier.pages at entry → earlier.is_asked ≡ true
+      → IsReceived fetcher at old new a ⊎ IsReceivedIfChanged fetcher at entry old new a → IsReceived fetcher at old new a ⊎ IsOfEarlier fetcher at earlier old new a
+  of_changed a has asked (inl received) = inl received
+  of_changed a has asked (inr changed) = inr (entry, has, inl (asked, changed))
+
+  of_missing : (a : Answer Part) → HasThis earlier.pages at entry → earlier.is_asked ≡ false
+      → IsReceived fetcher at old new a ⊎ IsLeft fetcher at entry old new a → IsReceived fetcher at old new a ⊎ IsOfEarlier fetcher at earlier old new a
+  of_missing a has unasked (inl received) = inl received
+  of_missing a has unasked (inr left) = inr (entry, has, inr (unasked, left))
+
+  pub kept_changed : {E : Type 0} (r : Result (Answer Part) E) → fetcher.known ≡ Some earlier → HasThis earlier.pages at entry → earlier.is_asked ≡ true
+      → IfOk r (IsTold fetcher at (λ a. IsReceived fetcher at old new a ⊎ IsReceivedIfChanged fetcher at entry old new a))
+      → IfOk r (IsTold fetcher at (IsAnswered fetcher at old new))
+  kept_changed r is has asked answered = if_ok_map r _ _ answered (λ a told. (told.0, answered_by fetcher at old new a fetcher.known earlier is (of_changed a has asked told.1)))
+
+  pub kept_missing : {E : Type 0} (r : Result (Answer Part) E) → fetcher.known ≡ Some earlier → HasThis earlier.pages at entry → earlier.is_asked ≡ false
+      → IfOk r (IsTold fetcher at (λ a. IsReceived fetcher at old new a ⊎ IsLeft fetcher at entry old new a))
+      → IfOk r (IsTold fetcher at (IsAnswered fetcher at old new))
+  kept_missing r is has unasked answered = if_ok_map r _ _ answered (λ a told. (told.0, answered_by fetcher at old new a fetcher.known earlier is (of_missing a has unasked told.1)))
+
+-- that a page was noted changes nothing of its answer
+pub answered_noted : {E : Type 0} (known : Option Earlier) (inner noted : TcpFetching) (asks : List Ask) (at : AddressText) (r : Result (Answer Part) E) (new : Fetching Connecting)
+    → noted ≡ record inner { asks = asks }
+    → IfOk r (IsTold (lasting (record noted { known = known })) at (IsAnswered (lasting (record noted { known = known })) at noted.single new))
+    → IfOk r (IsTold (lasting (record inner { known = known })) at (IsAnswered (lasting (record inner { known = known })) at inner.single new))
+answered_noted known inner noted asks at r new is answered =
+    subst (λ (f : TcpFetching). IfOk r (IsTold (lasting (record f { known = known })) at (IsAnswered (lasting (record f { known = known })) at f.single new))) is answered
+
+-- the same of a page that isn't kept
+pub passed_noted : {E : Type 0} (known : Option Earlier) (inner noted : TcpFetching) (asks : List Ask) (at : AddressText) (r : Result (Answer Part) E) (new : Fetching Connecting)
+    → noted ≡ record inner { asks = asks }
+    → IfOk r (IsReceived (lasting noted) at noted.single new)
+    → IfOk r (IsAnswered (lasting (record inner { known = known })) at inner.single new)
+passed_noted known inner noted asks at r new is received =
+    if_ok_map r _ _ (subst (λ (f : TcpFetching). IfOk r (IsReceived (lasting f) at f.single new)) is received)
+    (λ a got. answered_anew (lasting (record inner { known = known })) at inner.single new a known got)
