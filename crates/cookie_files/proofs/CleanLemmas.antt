@@ -5,8 +5,8 @@ use Rattle.std.proofs.lemmas.List.Folds.{list_any-append}
 use Rattle.std.specs.List.{list_any}
 use Rattle.cookie_files.specs.Lines.{Fields, Text, fault_of, is_bad, is_bad_in_name, is_value, is_control, is_domain, is_expiry, is_flag, is_name, is_path}
 use Rattle.cookie_files.specs.Matches.{IsClean}
-use Rattle.cookie_files.specs.declared.fault.LineFault.{LineFault}
-use Rattle.cookie_files.specs.declared.fault.LineFault.TheVariants as fault
+use Rattle.cookie_files.specs.declared.fault.CookieLineFault.{CookieLineFault}
+use Rattle.cookie_files.specs.declared.fault.CookieLineFault.TheVariants as fault
 
 covered : (p q : ℕ → Bool) → ((x : ℕ) → p x ≡ false → q x ≡ false) → (xs : Text) → list_any p xs ≡ false → list_any q xs ≡ false
 covered p q covers [] none = refl
@@ -21,7 +21,7 @@ pair_clean name value good fine =
     let in_name : IsClean name = covered is_bad_in_name is_control (λ x none. (or_parts (is_control x) _ (or_parts (is_bad x) _ none).0).0) name good in
     clean-append name (codes "=" ++ value) in_name (clean-append (codes "=") value refl in_content)
 
-passed : (b : Bool) (why : LineFault) (others : Option LineFault) → cond (not b) (Some why) others ≡ None → (b ≡ true) × (others ≡ None)
+passed : (b : Bool) (why : CookieLineFault) (others : Option CookieLineFault) → cond (not b) (Some why) others ≡ None → (b ≡ true) × (others ≡ None)
 passed true why others is = (refl, is)
 passed false why others is = cc
 

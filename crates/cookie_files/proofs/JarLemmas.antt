@@ -8,7 +8,7 @@ use Rattle.cookie_files.specs.Lines.{Cookie, Fields, Text, read_line}
 use Rattle.cookie_files.specs.Jars.{by_line, is_feed, placed, read_lines, said_by}
 use Rattle.cookie_files.specs.declared.fault.CookieFault.{CookieFault}
 use Rattle.cookie_files.specs.declared.fault.CookieFault.TheVariants as fault
-use Rattle.cookie_files.specs.declared.fault.LineFault.{LineFault}
+use Rattle.cookie_files.specs.declared.fault.CookieLineFault.{CookieLineFault}
 use Rattle.cookie_files.specs.declared.cookies.TheConstants.{MAX_LINES}
 
 -- a cookie is before the first that has a shorter path
@@ -45,7 +45,7 @@ too_many number cookies lines line others are more =
     ∙ ap (λ b. cond b (Err fault.TooManyLines) (by_line number (read_line line) (λ said. read_lines (number + 1) (said_by cookies said) others))) (lt-ltb MAX_LINES number more)
 
 -- a line, and the others
-pub one_more : (number : ℕ) (cookies : List Cookie) (lines : List Text) (line : Text) (others : List Text) (said : Result (Option Fields) LineFault) → lines ≡ line ∷ others → number ≤ MAX_LINES → read_line line ≡ said → read_lines number cookies lines ≡ by_line number said (λ s. read_lines (number + 1) (said_by cookies s) others)
+pub one_more : (number : ℕ) (cookies : List Cookie) (lines : List Text) (line : Text) (others : List Text) (said : Result (Option Fields) CookieLineFault) → lines ≡ line ∷ others → number ≤ MAX_LINES → read_line line ≡ said → read_lines number cookies lines ≡ by_line number said (λ s. read_lines (number + 1) (said_by cookies s) others)
 one_more number cookies lines line others said are few is =
     ap (read_lines number cookies) are
     ∙ ap (λ b. cond b (Err fault.TooManyLines) (by_line number (read_line line) (λ s. read_lines (number + 1) (said_by cookies s) others))) (le-ltb MAX_LINES number few)

@@ -10,7 +10,7 @@ use Rattle.cookie_files.specs.Lines.{Cookie, Fields, Text, cookie_of, read_line}
 use Rattle.cookie_files.specs.Jars.{AreNoLonger, AreOf, LongerFirst, added, by_line, placed, read_lines, replaces, said_by, said_in, that_count, with_length}
 use Rattle.cookie_files.specs.declared.fault.CookieFault.{CookieFault}
 use Rattle.cookie_files.specs.declared.fault.CookieFault.TheVariants as fault
-use Rattle.cookie_files.specs.declared.fault.LineFault.{LineFault}
+use Rattle.cookie_files.specs.declared.fault.CookieLineFault.{CookieLineFault}
 use Rattle.cookie_files.specs.declared.cookies.TheConstants.{MAX_LINES}
 
 -- ---- longer paths first
@@ -190,7 +190,7 @@ are_of-more file cookies cookie are =
 
 -- ---- all lines
 
-by_lines : (number : ℕ) (file cookies : List Cookie) (rest : List Cookie) (out : List Cookie) (next : Option Fields → Result (List Cookie) CookieFault) (r : Result (Option Fields) LineFault)
+by_lines : (number : ℕ) (file cookies : List Cookie) (rest : List Cookie) (out : List Cookie) (next : Option Fields → Result (List Cookie) CookieFault) (r : Result (Option Fields) CookieLineFault)
     → ((said : Option Fields) (before : List Cookie) → AreOf before (said_by cookies said) → next said ≡ Ok out → AreOf (before ++ rest) out)
     → AreOf file cookies → by_line number r next ≡ Ok out → AreOf (file ++ (said_in r ++ rest)) out
 by_lines number file cookies rest out next (Err why) later are is = cc

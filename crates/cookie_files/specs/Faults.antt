@@ -2,9 +2,9 @@
 use Rattle.std.specs.Prelude.{◌++◌, ℕ, List, codes, decimal}
 use Rattle.cookie_files.specs.Lines.{Text}
 use Rattle.cookie_files.specs.declared.fault.CookieFault.{CookieFault}
-use Rattle.cookie_files.specs.declared.fault.LineFault.{LineFault}
+use Rattle.cookie_files.specs.declared.fault.CookieLineFault.{CookieLineFault}
 use Rattle.cookie_files.specs.declared.fault.CookieFault.TheVariants as fault
-use Rattle.cookie_files.specs.declared.fault.LineFault.TheVariants as line
+use Rattle.cookie_files.specs.declared.fault.CookieLineFault.TheVariants as line
 
 -- the line that is written in place of a report
 abbrev pub cookies_words : CookieFault → Text
@@ -23,7 +23,7 @@ cookies_status (fault.Line number why) = 2
 cookies_status fault.Memory = 1
 
 -- what is wrong with a line
-abbrev pub why : LineFault → Text
+abbrev pub why : CookieLineFault → Text
 why line.Fields = codes "a cookie has seven fields, with a TAB between two"
 why line.Domain = codes "the domain is no host"
 why line.Subdomains = codes "the second field is neither TRUE nor FALSE"

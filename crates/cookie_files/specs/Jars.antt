@@ -3,7 +3,7 @@ use Rattle.std.specs.Prelude.{◌≡◌, ◌⊎◌, ◌≤◌, ◌&&◌, ◌==�
 use Rattle.std.specs.List.{flat_map, list_any, slice_split}
 use Rattle.cookie_files.specs.Lines.{Cookie, Fields, Text, cookie_of, read_line}
 use Rattle.cookie_files.specs.declared.fault.CookieFault.{CookieFault}
-use Rattle.cookie_files.specs.declared.fault.LineFault.{LineFault}
+use Rattle.cookie_files.specs.declared.fault.CookieLineFault.{CookieLineFault}
 use Rattle.cookie_files.specs.declared.fault.CookieFault.TheVariants as fault
 use Rattle.cookie_files.specs.declared.cookies.TheConstants.{MAX_FILE, MAX_LINES}
 
@@ -62,7 +62,7 @@ said_by cookies None = cookies
 said_by cookies (Some fields) = added (cookie_of fields) cookies
 
 -- what follows from a line of this number
-abbrev pub by_line : ℕ → Result (Option Fields) LineFault → (Option Fields → Result (List Cookie) CookieFault) → Result (List Cookie) CookieFault
+abbrev pub by_line : ℕ → Result (Option Fields) CookieLineFault → (Option Fields → Result (List Cookie) CookieFault) → Result (List Cookie) CookieFault
 by_line number (Ok said) next = next said
 by_line number (Err why) next = Err (fault.Line number why)
 
@@ -78,7 +78,7 @@ unfoldable pub read_file : Text → Result (List Cookie) CookieFault
 read_file file = if nat_lt MAX_FILE (length file) then Err fault.TooLong else read_lines 1 [] (slice_split is_feed file)
 
 -- all cookies that the lines of a file say, in their order
-abbrev pub said_in : Result (Option Fields) LineFault → List Cookie
+abbrev pub said_in : Result (Option Fields) CookieLineFault → List Cookie
 said_in (Ok (Some fields)) = cookie_of fields ∷ []
 said_in other = []
 

@@ -5,8 +5,8 @@ use Rattle.std.specs.Char.{is_ascii_alphanumeric, is_ascii_digit}
 use Rattle.std.specs.List.{ends_with, list_all, list_any, starts_with}
 use Rattle.std.specs.Option.{option_map_or}
 use Rattle.std.specs.Str.{str_to_ascii_lowercase}
-use Rattle.cookie_files.specs.declared.fault.LineFault.{LineFault}
-use Rattle.cookie_files.specs.declared.fault.LineFault.TheVariants as fault
+use Rattle.cookie_files.specs.declared.fault.CookieLineFault.{CookieLineFault}
+use Rattle.cookie_files.specs.declared.fault.CookieLineFault.TheVariants as fault
 
 abbrev pub Text : Type 0
 Text = List ℕ
@@ -123,7 +123,7 @@ fields_of line =
     (cut 9 e.1)) (cut 9 d.1)) (cut 9 c.1)) (cut 9 b.1)) (cut 9 a.1)) (cut 9 line)
 
 -- the first of the fields that can't be
-unfoldable pub fault_of : Fields → Option LineFault
+unfoldable pub fault_of : Fields → Option CookieLineFault
 fault_of fields =
     if not (is_domain fields.domain) then Some fault.Domain
     else (if not (is_flag fields.subdomains) then Some fault.Subdomains
@@ -161,10 +161,10 @@ abbrev pub is_silent : Text → Bool
 is_silent line = length line == 0 || starts_with nat_eq line (codes "#")
 
 -- the fields, unless one can't be
-abbrev pub sound : Option Fields → Result (Option Fields) LineFault
+abbrev pub sound : Option Fields → Result (Option Fields) CookieLineFault
 sound None = Err fault.Fields
 sound (Some fields) = option_map_or (λ fault. Err fault) (fault_of fields) (Ok (Some fields))
 
 -- what a line says: the fields of a cookie, or nothing
-unfoldable pub read_line : Text → Result (Option Fields) LineFault
+unfoldable pub read_line : Text → Result (Option Fields) CookieLineFault
 read_line text = let line = without_mark (without_return text) in if is_silent line then Ok None else sound (fields_of line)

@@ -6,7 +6,7 @@ use std::alloc::{AllocError, Global};
 
 /// Why a line says no cookie: the first of its fields that can't be.
 #[derive(Clone, Copy, PartialEq, Eq, Debug)]
-pub enum LineFault {
+pub enum CookieLineFault {
     /// There are fewer than seven fields, with a TAB between two.
     Fields,
     /// The domain is no host with a port or without one.
@@ -35,12 +35,12 @@ pub enum CookieFault {
     /// It has more than 10,000 lines.
     TooManyLines,
     /// The line of this number, the first that does so, says no cookie.
-    Line(usize, LineFault),
+    Line(usize, CookieLineFault),
     /// Memory ran out.
     Memory,
 }
 
-impl LineFault {
+impl CookieLineFault {
     ghost use Rattle.std.specs.Prelude.{◌≡◌};
     ghost use Rattle.cookie_files.specs.Faults.{why};
 
@@ -49,15 +49,16 @@ impl LineFault {
         ensures { result.now ≡ why self.now }
     {
         match self {
-            LineFault::Fields => "a cookie has seven fields, with a TAB between two",
-            LineFault::Domain => "the domain is no host",
-            LineFault::Subdomains => "the second field is neither TRUE nor FALSE",
-            LineFault::Path => "the path doesn't begin with a slash, or has a control character",
-            LineFault::Secure => "the fourth field is neither TRUE nor FALSE",
-            LineFault::Expiry => "the expiry is no number of seconds",
-            LineFault::Name =>
+            CookieLineFault::Fields => "a cookie has seven fields, with a TAB between two",
+            CookieLineFault::Domain => "the domain is no host",
+            CookieLineFault::Subdomains => "the second field is neither TRUE nor FALSE",
+            CookieLineFault::Path =>
+                "the path doesn't begin with a slash, or has a control character",
+            CookieLineFault::Secure => "the fourth field is neither TRUE nor FALSE",
+            CookieLineFault::Expiry => "the expiry is no number of seconds",
+            CookieLineFault::Name =>
                 "the name is empty, or has a control character, a semicolon or an equals sign",
-            LineFault::Value => "the value has a control character or a semicolon",
+            CookieLineFault::Value => "the value has a control character or a semicolon",
         }
     }
 }

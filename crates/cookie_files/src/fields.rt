@@ -4,7 +4,7 @@ ghost use Rattle.std.specs.List.{list_all, list_any};
 ghost use Rattle.cookie_files.specs.Lines.{cut, fault_of, fields_of, is_bad, is_bad_in_name, is_bracketed, is_value, is_control, is_domain, is_expiry, is_flag, is_host, is_host_byte, is_name, is_path, is_port, number_in, place_in, place_of, port_number, without_dot};
 ghost use Rattle.cookie_files.specs.inner.FieldsView.{fields_value};
 
-use crate::fault::LineFault;
+use crate::fault::CookieLineFault;
 
 /// A number is smaller than this before a digit is added to it.
 const MAX_BEFORE: u64 = 1_000_000_000_000_000_000;
@@ -245,23 +245,23 @@ fn is_value(text: &[u8]) -> bool
 
 /// The first of the fields that can't be.
 #[tactic(auto, unfolding(crate::specs::Lines::fault_of))]
-pub(crate) fn fault_of(fields: &Fields<'_>) -> Option<LineFault>
+pub(crate) fn fault_of(fields: &Fields<'_>) -> Option<CookieLineFault>
     ensures { result ≡ fault_of (fields_value fields.now) }
 {
     if !is_domain(fields.domain) {
-        Some(LineFault::Domain)
+        Some(CookieLineFault::Domain)
     } else if !is_flag(fields.subdomains) {
-        Some(LineFault::Subdomains)
+        Some(CookieLineFault::Subdomains)
     } else if !is_path(fields.path) {
-        Some(LineFault::Path)
+        Some(CookieLineFault::Path)
     } else if !is_flag(fields.secure) {
-        Some(LineFault::Secure)
+        Some(CookieLineFault::Secure)
     } else if !is_expiry(fields.expiry) {
-        Some(LineFault::Expiry)
+        Some(CookieLineFault::Expiry)
     } else if !is_name(fields.name) {
-        Some(LineFault::Name)
+        Some(CookieLineFault::Name)
     } else if !is_value(fields.value) {
-        Some(LineFault::Value)
+        Some(CookieLineFault::Value)
     } else {
         None
     }

@@ -9,7 +9,7 @@
 #![tactic(auto)]
 
 pub use crate::cookies::{Cookies, MAX_FILE, MAX_LINES};
-pub use crate::fault::{CookieFault, LineFault, cookies_text};
+pub use crate::fault::{CookieFault, CookieLineFault, cookies_text};
 
 mod cookie;
 mod cookies;

@@ -3,7 +3,7 @@ ghost use Rattle.std.specs.Prelude.{◌≡◌, IfOk, IfSome, None, option_map};
 ghost use Rattle.cookie_files.specs.Lines.{fault_of, is_silent, read_line, sound, without_mark, without_return};
 ghost use Rattle.cookie_files.specs.inner.FieldsView.{fields_value, said_value};
 
-use crate::fault::LineFault;
+use crate::fault::CookieLineFault;
 use crate::fields::{Fields, fault_of, fields_of};
 
 // The line before CR LF.
@@ -36,12 +36,12 @@ fn is_silent(line: &[u8]) -> bool
 }
 
 // The fields, unless one can't be.
-fn sound(fields: Option<Fields<'_>>) -> Result<Option<Fields<'_>>, LineFault>
+fn sound(fields: Option<Fields<'_>>) -> Result<Option<Fields<'_>>, CookieLineFault>
     ensures value { said_value result ≡ sound (option_map fields_value fields.entry) }
     ensures sound { IfOk result (λ said. IfSome said (λ found. fault_of (fields_value found) ≡ None)) }
 {
     let Some(fields) = fields else {
-        return Err(LineFault::Fields);
+        return Err(CookieLineFault::Fields);
     };
     match fault_of(&fields) {
         Some(fault) => Err(fault),
@@ -51,7 +51,7 @@ fn sound(fields: Option<Fields<'_>>) -> Result<Option<Fields<'_>>, LineFault>
 
 /// What a line says: the fields of a cookie, or nothing.
 #[tactic(auto, unfolding(crate::specs::Lines::read_line))]
-pub(crate) fn read_line(text: &[u8]) -> Result<Option<Fields<'_>>, LineFault>
+pub(crate) fn read_line(text: &[u8]) -> Result<Option<Fields<'_>>, CookieLineFault>
     ensures value { said_value result ≡ read_line text.now }
     ensures sound { IfOk result (λ said. IfSome said (λ found. fault_of (fields_value found) ≡ None)) }
 {

@@ -3,7 +3,7 @@ use crate::shared_failures::SharedFailures;
 use address::{Address, Origin};
 use answer_notes::{Noted, Recording};
 use fetcher::{Answer, Ask, Body, Fetcher};
-use progress::Progress;
+use progress::ProgressLine;
 use record_journal::{Journaled, Pen};
 use robots_rules::RuleSet;
 use run_failures::LossKind;
@@ -21,7 +21,7 @@ use tcp_fetcher::OverTcp;
 pub struct Asking<'a, R: Net + Wait + Files + Clock + Eprint> {
     pub(crate) inner: Journaled<OverTcp<'a, R>, Pen<'a, R, R>>,
     pub(crate) rt: &'a R,
-    pub(crate) progress: &'a Progress<'a, R>,
+    pub(crate) progress: &'a ProgressLine<'a, R>,
     pub(crate) failures: &'a SharedFailures,
 }
 

@@ -12,7 +12,7 @@ use std::fs::Files;
 use std::io;
 use std::sync::Wait;
 use std::time::{Clock, SystemTime, UNIX_EPOCH};
-use streams::ReadFault;
+use streams::ReadInputFault;
 
 // Why the file at a path isn't used, for a person. If there is no memory for it, nothing is kept.
 fn told(alloc: Global, path: &str, fault: CookieFault) -> Result<String, AllocError> {
@@ -52,9 +52,9 @@ fn bytes_at<D: Files + Wait>(
 ) -> Result<Vec<u8>, CookieFault> {
     match read_at(disk, alloc, failures, path, MAX_FILE) {
         Ok(bytes) => Ok(bytes),
-        Err(ReadFault::Long) => Err(CookieFault::TooLong),
-        Err(ReadFault::Failed) => Err(CookieFault::Unread),
-        Err(ReadFault::Memory) => Err(CookieFault::Memory),
+        Err(ReadInputFault::Long) => Err(CookieFault::TooLong),
+        Err(ReadInputFault::Failed) => Err(CookieFault::Unread),
+        Err(ReadInputFault::Memory) => Err(CookieFault::Memory),
     }
 }
 

@@ -18,7 +18,7 @@ use std::fs::{File, Files};
 use std::io::{ErrorKind, Write};
 use std::sync::{Arc, Mutex, Wait};
 use std::{io, mem};
-use streams::{Close, Lock, ReadFault, read_input};
+use streams::{Close, Lock, ReadInputFault, read_input};
 use tcp_fetcher::{Earlier, PageNote};
 
 /// What the index is called, directly below the folder. No page has a name that begins so.
@@ -200,9 +200,9 @@ fn bytes_at<R: Files>(rt: &R, alloc: Global, path: &str) -> Result<Vec<u8>, Unre
     };
     match read_input(alloc, &mut file, MAX_INDEX) {
         Ok(bytes) => Ok(bytes),
-        Err(ReadFault::Long) => Err(Unread::Unused("is too long")),
-        Err(ReadFault::Failed) => Err(Unread::Unused("can't be read")),
-        Err(ReadFault::Memory) => Err(Unread::Memory),
+        Err(ReadInputFault::Long) => Err(Unread::Unused("is too long")),
+        Err(ReadInputFault::Failed) => Err(Unread::Unused("can't be read")),
+        Err(ReadInputFault::Memory) => Err(Unread::Memory),
     }
 }
 

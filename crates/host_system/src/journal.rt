@@ -6,7 +6,7 @@ use std::alloc::{AllocError, Global};
 use std::fs::{File, Files};
 use std::io;
 use std::io::{ErrorKind, Write};
-use streams::{Close, Lock, ReadFault, read_input};
+use streams::{Close, Lock, ReadInputFault, read_input};
 
 /// What it is called, directly below the folder. No page has a name that begins so.
 pub(crate) const JOURNAL: &str = ".wgetr%journal";
@@ -37,9 +37,9 @@ fn pages_in<F: io::Read + Drop>(
     let mut file = file;
     let bytes = match read_input(alloc, &mut file, MAX_INDEX) {
         Ok(bytes) => bytes,
-        Err(ReadFault::Long) => return unfit(alloc, "is too long"),
-        Err(ReadFault::Failed) => return unfit(alloc, "can't be read"),
-        Err(ReadFault::Memory) => return Err(AllocError),
+        Err(ReadInputFault::Long) => return unfit(alloc, "is too long"),
+        Err(ReadInputFault::Failed) => return unfit(alloc, "can't be read"),
+        Err(ReadInputFault::Memory) => return Err(AllocError),
     };
     match read_journal(alloc, bytes.as_slice(), first) {
         Ok(pages) => Ok(Left::Pages(pages, file)),

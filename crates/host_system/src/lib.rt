@@ -22,7 +22,7 @@ pub use crate::cookie_file::jar_of;
 pub use crate::disk::{Disk, Saved};
 pub use crate::early_run::EarlyRun;
 pub use crate::index_run::IndexRun;
-pub use crate::network::Network;
+pub use crate::network::HostSystem;
 pub use crate::output::Output;
 pub use crate::part_threads::PartThreads;
 pub use crate::parts_asking::PartsAsking;

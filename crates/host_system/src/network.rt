@@ -11,8 +11,8 @@ use live_system::{FetcherSettings, HoldFault, System};
 use local_tree::DiskFolder;
 use options::Order;
 use part_keeper::{Part, PartsDir};
-use progress::Progress;
-use record_journal::{HoldFault as Held, Journaled, Pen, SavedFile, Saving};
+use progress::ProgressLine;
+use record_journal::{Journaled, Pen, SaveFault, SavedFile, Saving};
 use requests::Jar;
 use std::alloc::{AllocError, Global};
 use std::fs::Files;
@@ -21,18 +21,18 @@ use std::sync::Wait;
 use std::sync::atomic::AtomicUsize;
 use std::thread::Threads;
 use std::time::Clock;
-use streams::{Close, Lock, ReadFault};
+use streams::{Close, Lock, ReadInputFault};
 use tcp_connect::{Hosts, Kept};
 use tcp_fetcher::{OverTcp, PartsOverTcp};
 
 /// The network and the disk, by the program's handle.
 #[derive(Drop)]
-pub struct Network<'a, R: Net + Wait + Files + Clock + Eprint> {
+pub struct HostSystem<'a, R: Net + Wait + Files + Clock + Eprint> {
     rt: &'a R,
     alloc: Global,
     hosts: &'a Hosts,
     kept: &'a Kept<R::Stream>,
-    progress: &'a Progress<'a, R>,
+    progress: &'a ProgressLine<'a, R>,
     saving: &'a Saving<R>,
     crew: &'a PartThreads<'a, R>,
     parts: &'a PartsDir<R::File>,
@@ -42,7 +42,7 @@ pub struct Network<'a, R: Net + Wait + Files + Clock + Eprint> {
     jar: Option<Jar>,
 }
 
-impl<'a, R: Net + Wait + Files + Clock + Eprint> Network<'a, R> {
+impl<'a, R: Net + Wait + Files + Clock + Eprint> HostSystem<'a, R> {
     ghost use Rattle.std.specs.Prelude.{◌≡◌, IfOk, Some, is_some};
     ghost use Rattle.response_reader.specs.Limits.{limits_of};
 
@@ -54,7 +54,7 @@ impl<'a, R: Net + Wait + Files + Clock + Eprint> Network<'a, R> {
         alloc: Global,
         hosts: &'a Hosts,
         kept: &'a Kept<R::Stream>,
-        progress: &'a Progress<'a, R>,
+        progress: &'a ProgressLine<'a, R>,
         saving: &'a Saving<R>,
         crew: &'a PartThreads<'a, R>,
         parts: &'a PartsDir<R::File>,
@@ -62,8 +62,8 @@ impl<'a, R: Net + Wait + Files + Clock + Eprint> Network<'a, R> {
         index: &'a IndexRun<R::File>,
         failures: &'a SharedFailures,
         jar: Option<Jar>,
-    ) -> Network<'a, R> {
-        Network {
+    ) -> HostSystem<'a, R> {
+        HostSystem {
             rt,
             alloc,
             hosts,
@@ -136,7 +136,7 @@ impl<'a, R: Net + Wait + Files + Clock + Eprint> Network<'a, R> {
     }
 }
 
-impl<'a, R: Net + Wait + Files + Clock + Eprint> Network<'a, R>
+impl<'a, R: Net + Wait + Files + Clock + Eprint> HostSystem<'a, R>
 where
     R::File: Close + Lock,
 {
@@ -171,7 +171,7 @@ where
     }
 }
 
-impl<'a, R: Net + Wait + Files + Clock + Eprint + Threads + Sync> System for Network<'a, R>
+impl<'a, R: Net + Wait + Files + Clock + Eprint + Threads + Sync> System for HostSystem<'a, R>
 where
     R::File: Close + Lock + Send + Sync,
     R::Stream: Send,
@@ -261,12 +261,17 @@ where
             .hold(self.rt, self.rt, self.alloc, path, resumed)
         {
             Ok(()) => Ok(()),
-            Err(Held::Refused) => Err(HoldFault::Refused),
-            Err(Held::Memory) => Err(HoldFault::Memory),
+            Err(SaveFault::Refused) => Err(HoldFault::Refused),
+            Err(SaveFault::Memory) => Err(HoldFault::Memory),
         }
     }
 
-    fn read_file(&self, alloc: Global, path: &str, limit: usize) -> Result<Vec<u8>, ReadFault> {
+    fn read_file(
+        &self,
+        alloc: Global,
+        path: &str,
+        limit: usize,
+    ) -> Result<Vec<u8>, ReadInputFault> {
         self.saving.read(self.rt, self.rt, alloc, path, limit)
     }
 

@@ -1,5 +1,5 @@
 //! Threads that write the parts of a site's files.
-use local_tree::{Naming, Part, PartCrew};
+use local_tree::{FilePart, Naming, PartCrew};
 use std::thread::{Threads, join};
 
 /// How many threads write parts.
@@ -22,7 +22,7 @@ impl<'a, R> PartThreads<'a, R> {
 }
 
 // Writes these parts in this thread.
-fn write_all(disk: &HostRuntime, parts: &mut [Part<'_>]) {
+fn write_all(disk: &HostRuntime, parts: &mut [FilePart<'_>]) {
     for part in parts {
         part.write(disk);
     }
@@ -34,7 +34,7 @@ fn write_in<R: Threads, N: Naming>(
     rt: &R,
     disk: &HostRuntime,
     writers: usize,
-    parts: &mut [Part<'_>],
+    parts: &mut [FilePart<'_>],
     naming: &mut N,
 ) {
     if writers == 0 {
@@ -50,7 +50,7 @@ fn write_in<R: Threads, N: Naming>(
 }
 
 impl<'a, R: Threads> PartCrew for PartThreads<'a, R> {
-    fn write_parts<N: Naming>(&self, parts: &mut [Part<'_>], naming: &mut N) {
+    fn write_parts<N: Naming>(&self, parts: &mut [FilePart<'_>], naming: &mut N) {
         write_in(self.rt, self.disk, WRITERS, parts, naming);
     }
 }

@@ -11,7 +11,7 @@ use std::fs::{File, Files};
 use std::io;
 use std::io::{Error, Read};
 use std::sync::Wait;
-use streams::{ReadFault, read_input};
+use streams::{ReadInputFault, read_input};
 
 /// The most bytes of a file of starts.
 const MAX_FILE: usize = 1_073_741_824;
@@ -59,12 +59,12 @@ pub(crate) fn read_at<D: Files + Wait>(
     failures: &SharedFailures,
     path: &str,
     most: usize,
-) -> Result<Vec<u8>, ReadFault> {
+) -> Result<Vec<u8>, ReadInputFault> {
     match File::open(disk, path) {
         Ok(mut file) => read_input(alloc, &mut file, most),
         Err(error) => {
             tell(disk, alloc, failures, path, &error);
-            Err(ReadFault::Failed)
+            Err(ReadInputFault::Failed)
         }
     }
 }

@@ -14,7 +14,7 @@ use std::alloc::{AllocError, Global};
 use std::io::Write;
 use std::marker::Model;
 use std::sync::atomic::AtomicUsize;
-use streams::ReadFault;
+use streams::ReadInputFault;
 
 /// Why a run may not save at a path, or go on from what is in a folder.
 #[derive(Clone, Copy)]
@@ -133,7 +133,7 @@ pub trait System {
     }
 
     /// All bytes of the file at a path, at most so many. It is closed when they are read.
-    fn read_file(&self, alloc: Global, path: &str, limit: usize) -> Result<Vec<u8>, ReadFault>
+    fn read_file(&self, alloc: Global, path: &str, limit: usize) -> Result<Vec<u8>, ReadInputFault>
         ensures { IfOk result (λ bytes. holds self.now path.now bytes.items) };
 
     /// What takes the record that is to be saved at a path, and fails if none can be there. The file that is there is

@@ -59,7 +59,7 @@ const EMFILE: i32 = 24;
 
 /// What was requested of a network.
 #[derive(Drop)]
-pub struct Log {
+pub struct CallLog {
     pub lookups: AtomicU64,
     pub reads: AtomicU64,
     /// The addresses at which a connection was requested, in order.
@@ -78,7 +78,7 @@ pub struct Log {
 #[derive(Drop)]
 pub struct Network<'a, R: Wait + Abort> {
     rt: &'a R,
-    pub log: Arc<Log>,
+    pub log: Arc<CallLog>,
     // Whether each sleep lasts until one more connection was requested.
     follows: bool,
 }
@@ -87,7 +87,7 @@ pub struct Network<'a, R: Wait + Abort> {
 #[derive(Drop)]
 pub struct FakeStream {
     server: SocketAddr,
-    log: Arc<Log>,
+    log: Arc<CallLog>,
 }
 
 /// No server is made here.
@@ -96,7 +96,7 @@ pub struct FakeListener;
 
 impl<'a, R: Wait + Abort> Network<'a, R> {
     pub fn new(rt: &'a R, alloc: Global) -> Network<'a, R> {
-        let log = Log {
+        let log = CallLog {
             lookups: AtomicU64::new(0),
             reads: AtomicU64::new(0),
             tried: Mutex::new(Vec::new(alloc)),

@@ -4,7 +4,7 @@ use crate::network::Network;
 use address::Origin;
 use http_fetcher::{Connect, ConnectFault};
 use memory_connect::MemoryConnect;
-use progress::{Progress, Watched};
+use progress::{ProgressLine, Watched};
 use response_reader::Wire;
 use std::alloc::Global;
 use std::fmt::{Display, Write};
@@ -94,7 +94,7 @@ fn make_connections<R: Abort + Wait, C: Connect>(
     alloc: Global,
     inner: C,
     terminal: &Terminal<'_, R>,
-    progress: &Progress<'_, Terminal<'_, R>>,
+    progress: &ProgressLine<'_, Terminal<'_, R>>,
 ) {
     let mut connect = Watched::new(inner, progress);
     for (at, text, waiting) in ENDS {
@@ -109,7 +109,7 @@ fn run<R: Abort + Wait>(
     rt: &R,
     alloc: Global,
     terminal: &Terminal<'_, R>,
-    progress: &Progress<'_, Terminal<'_, R>>,
+    progress: &ProgressLine<'_, Terminal<'_, R>>,
 ) {
     let network = Network::new(rt, alloc);
     let hosts = Hosts::new(alloc);
@@ -130,7 +130,7 @@ fn shown(rt: &impl Abort, alloc: Global) -> String {
 /// Whether the lines are on the terminal after the connections, once the line is cleared.
 fn shows<R: Abort + Wait>(rt: &R, alloc: Global) -> bool {
     let terminal = Terminal::new(rt, alloc);
-    let progress = Progress::new(&terminal, true);
+    let progress = ProgressLine::new(&terminal, true);
     run(rt, alloc, &terminal, &progress);
     progress.clear();
     progress.clear();
@@ -183,7 +183,12 @@ impl Eprint for Meeting {
 const MEETINGS: u64 = 1000;
 
 /// Makes so many connections of a worker.
-fn work<C: Connect>(rt: &impl Abort, alloc: Global, inner: C, progress: &Progress<'_, Meeting>) {
+fn work<C: Connect>(
+    rt: &impl Abort,
+    alloc: Global,
+    inner: C,
+    progress: &ProgressLine<'_, Meeting>,
+) {
     let of = origin(rt, alloc, "http://h/");
     let mut connect = Watched::new(inner, progress);
     for _ in 0..MEETINGS {
@@ -200,7 +205,7 @@ fn two_workers_do_not_write_one_line_twice(rt: HostRuntime) {
         calls: AtomicU64::new(0),
         lines: AtomicU64::new(0),
     };
-    let progress = Progress::new(&terminal, true);
+    let progress = ProgressLine::new(&terminal, true);
     thread::join(
         &rt,
         || {

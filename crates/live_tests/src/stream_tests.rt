@@ -3,7 +3,7 @@ use std::alloc::Global;
 use std::io;
 use std::io::{Error, ErrorKind, Read, Write};
 use std::process::Abort;
-use streams::{Pieces, ReadFault, read_input, write_text};
+use streams::{Pieces, ReadInputFault, read_input, write_text};
 
 /// What befalls the calls of a stream.
 #[derive(Clone, Copy, Debug)]
@@ -95,7 +95,7 @@ fn bears(alloc: Global, input: &str, trouble: Trouble, is_read: bool, calls: u32
     };
     let is_so = match read_input(alloc, &mut reader, 10_000) {
         Ok(read) => is_read && read.as_slice() == input.as_bytes(),
-        Err(fault) => !is_read && fault == ReadFault::Failed,
+        Err(fault) => !is_read && fault == ReadInputFault::Failed,
     };
     is_so && reader.calls == calls
 }
@@ -198,7 +198,7 @@ fn a_writer_that_failed_holds_a_front_and_is_not_written_again(rt: HostRuntime) 
 #[test]
 fn an_input_above_its_limit_is_long(rt: HostRuntime) {
     let long = read_input(rt.alloc(), &mut b"abc".as_slice(), 2);
-    assert!(rt; long.err() == Some(ReadFault::Long));
+    assert!(rt; long.err() == Some(ReadInputFault::Long));
     let input = read_input(rt.alloc(), &mut b"abc".as_slice(), 3).expect(&rt, "the input");
     assert!(rt; input.as_slice() == b"abc".as_slice());
 }

@@ -5,12 +5,12 @@ ghost use Rattle.local_tree.specs.Folders.{CountsRefusedPut, opened_at, untold};
 ghost use Rattle.local_tree.specs.SiteFiles.{IsTornBy};
 
 use crate::folder::{Folder, FolderFault};
-use crate::parts::{Batch, Naming, Part, PartCrew, write_new};
+use crate::parts::{Batch, FilePart, Naming, PartCrew, write_new};
 use crate::site_files::WriteFault;
 use harvest::Harvest;
 use kept_bodies::Body;
 use local_names::is_local_name;
-use part_keeper::{OwnDir, Part as KeptPart, make_own_dir};
+use part_keeper::{OwnDir, Part, make_own_dir};
 use std::alloc::{AllocError, Global};
 use std::fs::Files;
 use std::io::{Error, ErrorKind};
@@ -77,7 +77,7 @@ pub struct DiskFolder<'a, R: Files> {
     // Below which directory the keepers of a run have their parts; empty if there is none.
     parts: String,
     // Those that couldn't be moved back from the names that they were given early, and whether some aren't among them.
-    stuck: Vec<KeptPart>,
+    stuck: Vec<Part>,
     are_all_stuck: bool,
     // Where parts are made, while files are put.
     own: Option<OwnDir<R::File>>,
@@ -227,7 +227,7 @@ struct InOrder<'s, 'h, R> {
     alloc: Global,
     prefix: &'s str,
     known: Known,
-    ready: &'s [Part<'h>],
+    ready: &'s [FilePart<'h>],
     names: &'s [String],
     from: usize,
     // How many have their names.
@@ -236,7 +236,7 @@ struct InOrder<'s, 'h, R> {
 
 impl<'s, 'h, R: Files> InOrder<'s, 'h, R> {
     // Gives the next part its name, if it is ready for that. Returns whether that ended well.
-    fn give_name(&mut self, part: &Part<'_>, place: usize) -> bool {
+    fn give_name(&mut self, part: &FilePart<'_>, place: usize) -> bool {
         if !part.is_ready_for(place) {
             return false;
         }
@@ -310,7 +310,7 @@ fn batch_from<'h>(
     for i in from..end {
         let number = i - from;
         let path = format!(in alloc; "{dir}/{number}")?;
-        parts.push(Part::new(i, path, harvest.body(i)))?;
+        parts.push(FilePart::new(i, path, harvest.body(i)))?;
     }
     Ok(Batch { dir, parts })
 }
@@ -466,10 +466,10 @@ where
     fn name_while_writing<C: PartCrew>(
         &mut self,
         crew: &C,
-        ready: &[Part<'_>],
+        ready: &[FilePart<'_>],
         names: &[String],
         from: usize,
-        parts: &mut [Part<'_>],
+        parts: &mut [FilePart<'_>],
     ) -> usize
         ensures { self.new ≡ self.old }
     {

@@ -8,7 +8,7 @@ pub use crate::body_change::{BodyChange, ChangeFault};
 pub use crate::disk_folder::{DiskFolder, NamesParts, put_changed_parts, put_parts};
 pub use crate::folder::{Folder, FolderFault};
 pub use crate::memory_folder::MemoryFolder;
-pub use crate::parts::{Naming, Part, PartCrew};
+pub use crate::parts::{FilePart, Naming, PartCrew};
 pub use crate::shelf::{HasKind, Shelf};
 pub use crate::site_files::{WriteFault, write_changed_site, write_site};
 pub use streams::{Close, Lock};

@@ -8,7 +8,7 @@ use streams::Close;
 
 /// A file that is made ready before its turn.
 #[derive(Drop)]
-pub struct Part<'a> {
+pub struct FilePart<'a> {
     // The place of its file among those of the site.
     place: usize,
     path: String,
@@ -17,10 +17,10 @@ pub struct Part<'a> {
     is_ready: bool,
 }
 
-impl<'a> Part<'a> {
+impl<'a> FilePart<'a> {
     // The part of the file at this place, which is to be at this path with these bytes. Nothing is there yet.
-    pub(crate) fn new(place: usize, path: String, bytes: &'a [u8]) -> Part<'a> {
-        Part {
+    pub(crate) fn new(place: usize, path: String, bytes: &'a [u8]) -> FilePart<'a> {
+        FilePart {
             place,
             path,
             bytes,
@@ -57,7 +57,7 @@ impl<'a> Part<'a> {
 #[derive(Drop)]
 pub(crate) struct Batch<'a> {
     pub(crate) dir: String,
-    pub(crate) parts: Vec<Part<'a>>,
+    pub(crate) parts: Vec<FilePart<'a>>,
 }
 
 impl<'a> Batch<'a> {
@@ -93,9 +93,9 @@ pub trait Naming {
 
 /// Who writes parts, perhaps several side by side.
 pub trait PartCrew {
-    /// Has [`Part::write`] called at each part, in any order, and meanwhile names given to the parts before them, once. If the
+    /// Has [`FilePart::write`] called at each part, in any order, and meanwhile names given to the parts before them, once. If the
     /// first isn't called, or fails, if a part is moved, and if no names are given, files are put as they would be without a crew.
-    fn write_parts<N: Naming>(&self, parts: &mut [Part<'_>], naming: &mut N);
+    fn write_parts<N: Naming>(&self, parts: &mut [FilePart<'_>], naming: &mut N);
 }
 
 // Makes a new file. What a killed run left there is taken away first; a link isn't followed.

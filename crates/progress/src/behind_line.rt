@@ -1,7 +1,7 @@
 //! A writer on the terminal that shows the line.
 ghost use Rattle.std.specs.Prelude.{◌≡◌};
 
-use crate::progress::Progress;
+use crate::progress::ProgressLine;
 use std::io;
 use std::io::Write;
 use std::marker::Model;
@@ -11,7 +11,7 @@ use std::time::Clock;
 #[derive(Drop)]
 pub struct BehindLine<'a, W: Write + Drop, R: Clock + Eprint> {
     inner: W,
-    progress: &'a Progress<'a, R>,
+    progress: &'a ProgressLine<'a, R>,
 }
 
 // Contracts see the other writer alone.
@@ -23,7 +23,7 @@ impl<'a, W: Write + Drop, R: Clock + Eprint> Model for BehindLine<'a, W, R> {
 
 impl<'a, W: Write + Drop, R: Clock + Eprint> BehindLine<'a, W, R> {
     /// Writes to `inner`. Takes no memory.
-    pub fn new(inner: W, progress: &'a Progress<'a, R>) -> BehindLine<'a, W, R>
+    pub fn new(inner: W, progress: &'a ProgressLine<'a, R>) -> BehindLine<'a, W, R>
         ensures { result ≡ inner }
     {
         BehindLine { inner, progress }

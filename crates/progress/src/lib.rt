@@ -8,5 +8,5 @@ mod progress;
 mod watched;
 
 pub use crate::behind_line::BehindLine;
-pub use crate::progress::Progress;
+pub use crate::progress::ProgressLine;
 pub use crate::watched::{Watched, WatchedWire};

@@ -8,7 +8,7 @@ const PAUSE: u64 = 250;
 /// Counts what the connections of a run did, and reports it on standard error at most four times a second. All workers of
 /// a run share it.
 #[derive(Drop)]
-pub struct Progress<'a, R: Clock + Eprint> {
+pub struct ProgressLine<'a, R: Clock + Eprint> {
     rt: &'a R,
     // When the run began; none if nothing is to be shown.
     start: Option<Instant>,
@@ -23,12 +23,12 @@ pub struct Progress<'a, R: Clock + Eprint> {
     due: AtomicU64,
 }
 
-impl<'a, R: Clock + Eprint> Progress<'a, R> {
+impl<'a, R: Clock + Eprint> ProgressLine<'a, R> {
     /// The progress of a run that begins now. It is shown if this is true, for example if standard error is a terminal, and
     /// the clock can be read. Takes no memory.
-    pub fn new(rt: &'a R, shown: bool) -> Progress<'a, R> {
+    pub fn new(rt: &'a R, shown: bool) -> ProgressLine<'a, R> {
         let start = if shown { Instant::now(rt).ok() } else { None };
-        Progress {
+        ProgressLine {
             rt,
             start,
             answered: AtomicU64::new(0),

@@ -3,7 +3,7 @@ ghost use Rattle.std.specs.Prelude.{◌≡◌};
 ghost use Rattle.response_reader.specs.Wire.{CountsFault, NotesLoss, counted};
 ghost use Rattle.connect.specs.Connects.{CountsRefusal};
 
-use crate::progress::Progress;
+use crate::progress::ProgressLine;
 use address::Origin;
 use connect::{Connect, ConnectFault};
 use response_reader::{Wire, WireFault};
@@ -14,7 +14,7 @@ use std::time::Clock;
 #[derive(Drop)]
 pub struct Watched<'a, C: Connect, R: Clock + Eprint> {
     inner: C,
-    progress: &'a Progress<'a, R>,
+    progress: &'a ProgressLine<'a, R>,
 }
 
 /// A connection of another, with what came over it.
@@ -42,7 +42,7 @@ impl<W: Wire + Drop> Model for WatchedWire<W> {
 
 impl<'a, C: Connect, R: Clock + Eprint> Watched<'a, C, R> {
     /// Counts the connections that `inner` makes. Takes no memory.
-    pub fn new(inner: C, progress: &'a Progress<'a, R>) -> Watched<'a, C, R>
+    pub fn new(inner: C, progress: &'a ProgressLine<'a, R>) -> Watched<'a, C, R>
         ensures { result ≡ inner }
     {
         Watched { inner, progress }

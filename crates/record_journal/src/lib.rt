@@ -22,4 +22,4 @@ pub use crate::journal::Journal;
 pub use crate::journaled::Journaled;
 pub use crate::pen::Pen;
 pub use crate::saved_file::SavedFile;
-pub use crate::saving::{HoldFault, Saving};
+pub use crate::saving::{SaveFault, Saving};

@@ -12,7 +12,7 @@ use std::fs::{File, Files};
 use std::io::ErrorKind;
 use std::sync::{Mutex, OnceLock, Wait};
 use std::time::Clock;
-use streams::{Lock, ReadFault, read_input};
+use streams::{Lock, ReadInputFault, read_input};
 use thiserror::Error;
 
 /// How many bytes a journal may have that is to be read.
@@ -23,7 +23,7 @@ const FIRST_LINE: &[u8] = b"wgetr-record 2\n";
 
 /// Why a run may not save there.
 #[derive(Clone, Copy, Debug, PartialEq, Eq, Error)]
-pub enum HoldFault {
+pub enum SaveFault {
     /// Another run saves there, answers are there that this run would lose, or no file can be made. It is reported.
     #[error("answers can't be saved there")]
     Refused,
@@ -62,16 +62,16 @@ fn text_of<R: Eprint, D: Files>(
     rt: &R,
     alloc: Global,
     held: &mut HeldJournal<D>,
-) -> Result<Vec<u8>, HoldFault> {
+) -> Result<Vec<u8>, SaveFault> {
     match read_input(alloc, held.file(), MAX_READ) {
         Ok(text) => Ok(text),
-        Err(ReadFault::Memory) => Err(HoldFault::Memory),
+        Err(ReadInputFault::Memory) => Err(SaveFault::Memory),
         Err(_) => {
             let path = held.path();
             let _ = eprintln!(rt;
                 "{path}: can't be read, or is longer than {MAX_READ} bytes; move it away, or remove it"
             );
-            Err(HoldFault::Refused)
+            Err(SaveFault::Refused)
         }
     }
 }
@@ -82,11 +82,11 @@ fn is_journal(text: &[u8]) -> bool {
 }
 
 // Reports to a person which line of a journal isn't one of a record, and refuses it.
-fn refuse_line<R: Eprint, T>(rt: &R, path: &str, line: usize) -> Result<T, HoldFault> {
+fn refuse_line<R: Eprint, T>(rt: &R, path: &str, line: usize) -> Result<T, SaveFault> {
     let _ = eprintln!(rt;
         "{path}: line {line} is none of a record of version 2; mend it, or move the journal away"
     );
-    Err(HoldFault::Refused)
+    Err(SaveFault::Refused)
 }
 
 // The whole entries at the front of a journal.
@@ -95,13 +95,13 @@ fn front_of<R: Eprint>(
     alloc: Global,
     path: &str,
     text: &[u8],
-) -> Result<RecordFront, HoldFault> {
+) -> Result<RecordFront, SaveFault> {
     if !is_journal(text) {
         return refuse_line(rt, path, 1);
     }
     match read_front(alloc, text, LinkRules::all(false)) {
         Ok(front) => Ok(front),
-        Err(InputFault::Memory) => Err(HoldFault::Memory),
+        Err(InputFault::Memory) => Err(SaveFault::Memory),
         Err(InputFault::Line(line) | InputFault::Address(line)) => refuse_line(rt, path, line),
     }
 }
@@ -163,24 +163,24 @@ fn read_at<D: Files>(
     alloc: Global,
     path: &str,
     limit: usize,
-) -> Result<Option<Vec<u8>>, ReadFault> {
+) -> Result<Option<Vec<u8>>, ReadInputFault> {
     match File::open(disk, path) {
         Ok(mut file) => Ok(Some(read_input(alloc, &mut file, limit)?)),
         Err(e) if e.kind() == ErrorKind::NotFound => Ok(None),
-        Err(e) if e.kind() == ErrorKind::OutOfMemory => Err(ReadFault::Memory),
-        Err(_) => Err(ReadFault::Failed),
+        Err(e) if e.kind() == ErrorKind::OutOfMemory => Err(ReadInputFault::Memory),
+        Err(_) => Err(ReadInputFault::Failed),
     }
 }
 
 // Whether a file is at a path that a record may replace. What none may replace is refused, and a person gets a message.
-fn is_file<R: Eprint, D: Files>(rt: &R, disk: &D, saved: &str) -> Result<bool, HoldFault> {
+fn is_file<R: Eprint, D: Files>(rt: &R, disk: &D, saved: &str) -> Result<bool, SaveFault> {
     match look_for_file(disk, saved) {
         Ok(is_there) => Ok(is_there),
         Err(e) if e.kind() == ErrorKind::AlreadyExists => {
             let _ = eprintln!(rt;
                 "{saved}: a link, a folder or a device isn't replaced; name a file"
             );
-            Err(HoldFault::Refused)
+            Err(SaveFault::Refused)
         }
         Err(_) => Ok(false),
     }
@@ -192,12 +192,12 @@ fn refuse_other<R: Eprint, D: Files>(
     disk: &D,
     saved: &str,
     resumed: Option<&str>,
-) -> Result<(), HoldFault> {
+) -> Result<(), SaveFault> {
     if is_file(rt, disk, saved)? && resumed != Some(saved) {
         let _ = eprintln!(rt;
             "{saved}: is there; resume it by --resume {saved}, remove it, or save to another file"
         );
-        return Err(HoldFault::Refused);
+        return Err(SaveFault::Refused);
     }
     Ok(())
 }
@@ -208,14 +208,14 @@ fn refuse_left<R: Eprint>(
     path: &str,
     saved: &str,
     front: &RecordFront,
-) -> Result<(), HoldFault> {
+) -> Result<(), SaveFault> {
     if front.site.entry_count() == 0 {
         return Ok(());
     }
     let _ = eprintln!(rt;
         "{path}: has answers of a run that was stopped; resume them by --resume {saved}, or by the file that it resumed, or remove it"
     );
-    Err(HoldFault::Refused)
+    Err(SaveFault::Refused)
 }
 
 // Refuses a path at which no record can be made, and reports this to a person.
@@ -224,26 +224,26 @@ fn refuse_unmade<R: Eprint, D: Files>(
     disk: &D,
     alloc: Global,
     saved: &str,
-) -> Result<(), HoldFault> {
+) -> Result<(), SaveFault> {
     if can_be_made(disk, alloc, saved)? {
         return Ok(());
     }
     let _ = eprintln!(rt; "{saved}: no file can be made there");
-    Err(HoldFault::Refused)
+    Err(SaveFault::Refused)
 }
 
 // Whether a journal is at a path. What is neither a file nor nothing is refused with a message: a link isn't followed, and
 // nobody waits at a pipe.
-fn is_beside<R: Eprint, D: Files>(rt: &R, disk: &D, path: &str) -> Result<bool, ReadFault> {
+fn is_beside<R: Eprint, D: Files>(rt: &R, disk: &D, path: &str) -> Result<bool, ReadInputFault> {
     match look_for_file(disk, path) {
         Ok(is_there) => Ok(is_there),
         Err(e) if e.kind() == ErrorKind::AlreadyExists => {
             let _ = eprintln!(rt;
                 "{path}: a link, a folder or a device isn't read as a journal; remove it"
             );
-            Err(ReadFault::Failed)
+            Err(ReadInputFault::Failed)
         }
-        Err(_) => Err(ReadFault::Failed),
+        Err(_) => Err(ReadInputFault::Failed),
     }
 }
 
@@ -254,7 +254,7 @@ fn left_beside<R: Eprint, D: Files>(
     disk: &D,
     alloc: Global,
     saved: &str,
-) -> Result<Vec<u8>, ReadFault> {
+) -> Result<Vec<u8>, ReadInputFault> {
     let path = format!(in alloc; "{saved}.journal")?;
     if !is_beside(rt, disk, path.as_str())? {
         return Ok(Vec::new(alloc));
@@ -267,8 +267,8 @@ fn left_beside<R: Eprint, D: Files>(
             cut_to(rt, alloc, path.as_str(), &mut text, &front)?;
             Ok(text)
         }
-        Err(HoldFault::Refused) => Ok(text),
-        Err(HoldFault::Memory) => Err(ReadFault::Memory),
+        Err(SaveFault::Refused) => Ok(text),
+        Err(SaveFault::Memory) => Err(ReadInputFault::Memory),
     }
 }
 
@@ -311,19 +311,19 @@ fn parts_of<'a>(
 
 // The record of a record's answers and of those of a journal that it doesn't have, or has as faults. If one of both is no record it
 // is handed out as it is, so that its line is reported.
-fn joined(alloc: Global, record: Vec<u8>, journal: Vec<u8>) -> Result<Vec<u8>, ReadFault> {
+fn joined(alloc: Global, record: Vec<u8>, journal: Vec<u8>) -> Result<Vec<u8>, ReadInputFault> {
     if journal.is_empty() {
         return Ok(record);
     }
     let first = match RecordedSite::read_noted(alloc, record.as_slice(), LinkRules::all(false)) {
         Ok(first) => first,
-        Err(InputFault::Memory) => return Err(ReadFault::Memory),
+        Err(InputFault::Memory) => return Err(ReadInputFault::Memory),
         Err(_) => return Ok(record),
     };
     drop(record);
     let more = match RecordedSite::read_noted(alloc, journal.as_slice(), LinkRules::all(false)) {
         Ok(more) => more,
-        Err(InputFault::Memory) => return Err(ReadFault::Memory),
+        Err(InputFault::Memory) => return Err(ReadInputFault::Memory),
         Err(_) => return Ok(journal),
     };
     drop(journal);
@@ -331,7 +331,7 @@ fn joined(alloc: Global, record: Vec<u8>, journal: Vec<u8>) -> Result<Vec<u8>, R
     let mut text = Vec::new(alloc);
     match write_record(alloc, &mut text, parts.as_slice()) {
         Ok(()) => Ok(text),
-        Err(RecordFault::Device | RecordFault::Memory) => Err(ReadFault::Memory),
+        Err(RecordFault::Device | RecordFault::Memory) => Err(ReadInputFault::Memory),
     }
 }
 
@@ -342,10 +342,10 @@ fn read_with<D: Files>(
     path: &str,
     limit: usize,
     journal: Vec<u8>,
-) -> Result<Vec<u8>, ReadFault> {
+) -> Result<Vec<u8>, ReadInputFault> {
     match read_at(disk, alloc, path, limit)? {
         Some(record) => joined(alloc, record, journal),
-        None if journal.is_empty() => Err(ReadFault::Failed),
+        None if journal.is_empty() => Err(ReadInputFault::Failed),
         None => Ok(journal),
     }
 }
@@ -357,14 +357,14 @@ fn read_beside<R: Eprint, D: Files>(
     alloc: Global,
     path: &str,
     limit: usize,
-) -> Result<Vec<u8>, ReadFault> {
+) -> Result<Vec<u8>, ReadInputFault> {
     let journal = left_beside(rt, disk, alloc, path)?;
     read_with(disk, alloc, path, limit, journal)
 }
 
-impl From<AllocError> for HoldFault {
-    fn from(_: AllocError) -> HoldFault {
-        HoldFault::Memory
+impl From<AllocError> for SaveFault {
+    fn from(_: AllocError) -> SaveFault {
+        SaveFault::Memory
     }
 }
 
@@ -394,17 +394,17 @@ impl<D: Files> Saving<D> {
         alloc: Global,
         saved: &str,
         resumed: Option<&str>,
-    ) -> Result<(), HoldFault>
+    ) -> Result<(), SaveFault>
     where
         D::File: Lock,
     {
         refuse_other(rt, disk, saved, resumed)?;
         match HeldJournal::open(disk, alloc, saved) {
             Ok(held) => self.begin(rt, alloc, held, saved, resumed),
-            Err(JournalFault::Memory) => Err(HoldFault::Memory),
+            Err(JournalFault::Memory) => Err(SaveFault::Memory),
             Err(JournalFault::Held) => {
                 let _ = eprintln!(rt; "{saved}: another run saves there");
-                Err(HoldFault::Refused)
+                Err(SaveFault::Refused)
             }
             Err(JournalFault::Device) => {
                 refuse_unmade(rt, disk, alloc, saved)?;
@@ -424,7 +424,7 @@ impl<D: Files> Saving<D> {
         mut held: HeldJournal<D>,
         saved: &str,
         resumed: Option<&str>,
-    ) -> Result<(), HoldFault> {
+    ) -> Result<(), SaveFault> {
         let whole = self.take_left(rt, alloc, &mut held, saved, resumed)?;
         let journal = held.begin(rt, alloc, whole);
         if !journal.is_open(rt) {
@@ -442,7 +442,7 @@ impl<D: Files> Saving<D> {
         held: &mut HeldJournal<D>,
         saved: &str,
         resumed: Option<&str>,
-    ) -> Result<u64, HoldFault> {
+    ) -> Result<u64, SaveFault> {
         let mut text = text_of(rt, alloc, held)?;
         let front = front_of(rt, alloc, held.path(), text.as_slice())?;
         let Some(from) = resumed else {
@@ -467,7 +467,7 @@ impl<D: Files> Saving<D> {
         alloc: Global,
         path: &str,
         limit: usize,
-    ) -> Result<Vec<u8>, ReadFault> {
+    ) -> Result<Vec<u8>, ReadInputFault> {
         let left = self.left.lock(rt).take();
         match left {
             Some(

@@ -22,7 +22,7 @@ pub(crate) enum Mishap {
 
 /// What a disk and its files share.
 #[derive(Drop)]
-pub(crate) struct Log {
+pub(crate) struct DiskLog {
     mishap: Mishap,
     calls: AtomicU64,
     closed: AtomicU64,
@@ -35,14 +35,14 @@ pub(crate) struct Log {
 #[derive(Drop)]
 pub(crate) struct Disk {
     rt: HostRuntime,
-    log: Arc<Log>,
+    log: Arc<DiskLog>,
 }
 
 /// An open file of it.
 #[derive(Drop)]
 pub(crate) struct DiskFile {
     file: File,
-    log: Arc<Log>,
+    log: Arc<DiskLog>,
 }
 
 /// What is answered to a call that nobody makes here.
@@ -50,7 +50,7 @@ fn unsupported<T>() -> io::Result<T> {
     Err(Error::from(ErrorKind::Unsupported))
 }
 
-impl Log {
+impl DiskLog {
     // Counts a call, and returns whether it fails.
     fn count(&self) -> io::Result<()> {
         let number = self.calls.fetch_add(1, Ordering::SeqCst);
@@ -110,7 +110,7 @@ impl Log {
 
 impl Disk {
     pub(crate) fn new(rt: HostRuntime, alloc: Global, mishap: Mishap) -> Result<Disk, AllocError> {
-        let log = Log {
+        let log = DiskLog {
             mishap,
             calls: AtomicU64::new(0),
             closed: AtomicU64::new(0),
@@ -125,7 +125,7 @@ impl Disk {
     }
 
     /// What befell it.
-    pub(crate) fn log(&self) -> &Log {
+    pub(crate) fn log(&self) -> &DiskLog {
         &self.log
     }
 

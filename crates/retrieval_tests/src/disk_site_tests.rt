@@ -5,7 +5,7 @@ use address::{Address, Origin};
 use fetcher::{Answer, Ask, Body, Fetcher};
 use harvest::Harvest;
 use local_names::{NameRules, names};
-use local_tree::{Close, DiskFolder, Folder, Lock, Naming, Part, PartCrew, WriteFault};
+use local_tree::{Close, DiskFolder, FilePart, Folder, Lock, Naming, PartCrew, WriteFault};
 use robots_rules::RuleSet;
 use site_maps::MapSite;
 use std::alloc::{AllocError, Global};
@@ -27,7 +27,7 @@ struct InThreads<'a, T> {
 }
 
 /// Writes these parts.
-fn write_all<R: Files>(disk: &R, parts: &mut [Part<'_>])
+fn write_all<R: Files>(disk: &R, parts: &mut [FilePart<'_>])
 where
     R::File: Close + Lock,
 {
@@ -37,7 +37,7 @@ where
 }
 
 impl<'a, T: Threads> PartCrew for InThreads<'a, T> {
-    fn write_parts<N: Naming>(&self, parts: &mut [Part<'_>], naming: &mut N) {
+    fn write_parts<N: Naming>(&self, parts: &mut [FilePart<'_>], naming: &mut N) {
         write_in_another(self.threads, self.disk, parts, naming);
     }
 }
@@ -46,7 +46,7 @@ impl<'a, T: Threads> PartCrew for InThreads<'a, T> {
 fn write_in_another<T: Threads, N: Naming>(
     threads: &T,
     disk: &Disk,
-    parts: &mut [Part<'_>],
+    parts: &mut [FilePart<'_>],
     naming: &mut N,
 ) {
     join_mut(
@@ -66,7 +66,7 @@ impl<'a, R: Files> PartCrew for InTurn<'a, R>
 where
     R::File: Close + Lock,
 {
-    fn write_parts<N: Naming>(&self, parts: &mut [Part<'_>], naming: &mut N) {
+    fn write_parts<N: Naming>(&self, parts: &mut [FilePart<'_>], naming: &mut N) {
         write_all(self.disk, parts);
         naming.give_names();
     }
@@ -77,7 +77,7 @@ where
 struct Nobody;
 
 impl PartCrew for Nobody {
-    fn write_parts<N: Naming>(&self, _parts: &mut [Part<'_>], _naming: &mut N) {}
+    fn write_parts<N: Naming>(&self, _parts: &mut [FilePart<'_>], _naming: &mut N) {}
 }
 
 /// Writes parts in turn, and then moves them.
@@ -90,7 +90,7 @@ impl<'a, R: Files> PartCrew for Mover<'a, R>
 where
     R::File: Close + Lock,
 {
-    fn write_parts<N: Naming>(&self, parts: &mut [Part<'_>], naming: &mut N) {
+    fn write_parts<N: Naming>(&self, parts: &mut [FilePart<'_>], naming: &mut N) {
         naming.give_names();
         write_all(self.disk, parts);
         parts.reverse();

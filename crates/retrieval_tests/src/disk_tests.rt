@@ -1,6 +1,6 @@
 //! Files on a disk: made with their directories, and replaced; a disk that fails, and one that another process uses. Names are in a
 //! text with a blank between two.
-use crate::disk::{Disk, Log, Mishap};
+use crate::disk::{Disk, DiskLog, Mishap};
 use local_tree::{Close, DiskFolder, Folder, Lock};
 use std::alloc::Global;
 use std::fs;
@@ -184,7 +184,7 @@ fn are_whole<R: Files + AllocGlobal>(rt: &R, replaced: bool, new: bool, lasting:
 fn stays_whole<R: Abort + Files + AllocGlobal, D: Files>(
     rt: &R,
     disk: &D,
-    log: &Log,
+    log: &DiskLog,
     from: u64,
     lasting: u64,
 ) -> bool

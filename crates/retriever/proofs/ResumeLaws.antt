@@ -9,7 +9,7 @@ use Rattle.html_links.specs.declared.rules.LinkRules.{LinkRules}
 use Rattle.site_records.specs.RecordSites.{RecordValue}
 use Rattle.site_records.specs.Records.{IsFault}
 use Rattle.site_records.specs.Resumption.{Resuming}
-use Rattle.streams.specs.declared.input.ReadFault.TheVariants as reading
+use Rattle.streams.specs.declared.input.ReadInputFault.TheVariants as reading
 use Rattle.retriever.specs.Saving.{resuming_of}
 use Rattle.retriever.specs.Systems.{Means, IsNotRead, IsNotResumed, IsRecordRead, IsResumed, LivesAgain, LivesBy, LivesPlainly, LivesSaving, LivesWith, settings_of}
 use Rattle.retriever.specs.inner.Systems.{AreResuming, is_plain}

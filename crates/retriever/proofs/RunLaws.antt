@@ -22,7 +22,7 @@ use Rattle.retriever.specs.Site.{IsToldBy, IsWrongBy, whole_of}
 use Rattle.streams.specs.Streams.{IsInput}
 use Rattle.retriever.specs.declared.fault.Fault.{Fault}
 use Rattle.retriever.specs.declared.fault.Fault.TheVariants as fault
-use Rattle.streams.specs.declared.input.ReadFault.TheVariants as reading
+use Rattle.streams.specs.declared.input.ReadInputFault.TheVariants as reading
 
 -- some bytes are what the reader has left
 some_input : (known : Option (List ℕ)) → (input : List ℕ) × IsInput known input

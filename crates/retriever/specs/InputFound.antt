@@ -11,7 +11,7 @@ use Rattle.report.specs.Named.{named_pages}
 use Rattle.html_links.specs.declared.rules.LinkRules.{LinkRules}
 use Rattle.site_records.specs.Records.{RecordedAnswers, IsFault as IsFaultOfRecord}
 use Rattle.streams.specs.Streams.{IsInput}
-use Rattle.streams.specs.declared.input.ReadFault.TheVariants as reading
+use Rattle.streams.specs.declared.input.ReadInputFault.TheVariants as reading
 use Rattle.retriever.specs.declared.fault.Fault.{Fault}
 use Rattle.retriever.specs.declared.fault.Fault.TheVariants as fault
 use Rattle.retriever.specs.declared.input_run.TheConstants.{MAX_INPUT}

@@ -24,8 +24,8 @@ use Rattle.streams.specs.Streams.{IsInput, AppendsFront}
 use Rattle.report.specs.Trace.{cause_word, trace_text}
 use Rattle.retriever.specs.declared.fault.Fault.{Fault}
 use Rattle.retriever.specs.declared.fault.Fault.TheVariants as fault
-use Rattle.streams.specs.declared.input.ReadFault.{ReadFault}
-use Rattle.streams.specs.declared.input.ReadFault.TheVariants as reading
+use Rattle.streams.specs.declared.input.ReadInputFault.{ReadInputFault}
+use Rattle.streams.specs.declared.input.ReadInputFault.TheVariants as reading
 
 -- the words and the input result in this fault; memory may run out at any time, how large an expression may be no clause says, and a reader may fail once the words are read
 abbrev pub Comes : List (List ℕ) → List ℕ → Fault → Type 0
@@ -74,7 +74,7 @@ line_words line.StartIsRobots = codes "line start-robots"
 line_words line.Memory = codes "stopped memory"
 
 -- the words for an input that can't be had
-abbrev pub reading_words : ReadFault → List ℕ
+abbrev pub reading_words : ReadInputFault → List ℕ
 reading_words reading.Long = codes "input long"
 reading_words reading.Failed = codes "input read"
 reading_words reading.Memory = codes "stopped memory"

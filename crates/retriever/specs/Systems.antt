@@ -9,7 +9,7 @@ use Rattle.local_tree.specs.Folders.{Holding, holding}
 use Rattle.local_tree.specs.declared.folder.Folder.{Ghosts as Folders}
 use Rattle.answer_notes.specs.declared.noted.Noted.{Noted}
 use Rattle.site_inputs.specs.declared.input_fault.InputFault.TheVariants as input
-use Rattle.streams.specs.declared.input.ReadFault.TheVariants as reading
+use Rattle.streams.specs.declared.input.ReadInputFault.TheVariants as reading
 use Rattle.html_links.specs.declared.rules.LinkRules.{LinkRules}
 use Rattle.site_records.specs.Entries.{Entry}
 use Rattle.site_records.specs.RecordNotes.{HasNotes}

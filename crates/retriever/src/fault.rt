@@ -8,7 +8,7 @@ use address::AddressFault;
 use options::{LineFault, advice_text};
 use site_inputs::InputFault;
 use std::alloc::{AllocError, Global};
-use streams::ReadFault;
+use streams::ReadInputFault;
 
 /// Why a run has no report.
 #[derive(Clone, Copy)]
@@ -20,7 +20,7 @@ pub(crate) enum Fault {
     /// The words order a site on the network.
     NoSite,
     /// The input can't be had.
-    Read(ReadFault),
+    Read(ReadInputFault),
     /// The input is no map, or no record.
     Input(InputFault),
     /// Memory ran out.
@@ -38,8 +38,8 @@ impl Fault {
     {
         match self {
             Fault::Line(wrong) => line_status(*wrong),
-            Fault::NotText | Fault::NoSite | Fault::Read(ReadFault::Long) => 2,
-            Fault::Read(ReadFault::Failed | ReadFault::Memory) => 1,
+            Fault::NotText | Fault::NoSite | Fault::Read(ReadInputFault::Long) => 2,
+            Fault::Read(ReadInputFault::Failed | ReadInputFault::Memory) => 1,
             Fault::Input(InputFault::Memory) => 1,
             Fault::Input(InputFault::Line(_) | InputFault::Address(_)) => 2,
             Fault::Memory => 1,
@@ -99,13 +99,13 @@ fn line_words(wrong: LineFault) -> &'static str
 }
 
 // The words for an input that can't be had.
-fn reading_words(wrong: ReadFault) -> &'static str
+fn reading_words(wrong: ReadInputFault) -> &'static str
     ensures { result.now ≡ reading_words wrong }
 {
     match wrong {
-        ReadFault::Long => "input long",
-        ReadFault::Failed => "input read",
-        ReadFault::Memory => "stopped memory",
+        ReadInputFault::Long => "input long",
+        ReadInputFault::Failed => "input read",
+        ReadInputFault::Memory => "stopped memory",
     }
 }
 
@@ -163,13 +163,13 @@ impl From<LineFault> for Fault {
     }
 }
 
-impl From<ReadFault> for Fault {
+impl From<ReadInputFault> for Fault {
     ghost use Rattle.std.specs.Prelude.{◌≡◌};
     ghost use Rattle.retriever.specs.declared.fault.Fault.TheVariants.{Read};
 
     ghost from_gives = { λ wrong fault. fault ≡ Read wrong };
 
-    fn from(wrong: ReadFault) -> Fault {
+    fn from(wrong: ReadInputFault) -> Fault {
         Fault::Read(wrong)
     }
 }

@@ -13,7 +13,7 @@ pub use crate::program::run_program;
 pub use crate::saved_run::live_resumed;
 pub use crate::telling::{Telling, telling_of};
 pub use live_system::{HoldFault, System};
-pub use streams::{ReadFault, read_input};
+pub use streams::{ReadInputFault, read_input};
 
 mod copies;
 mod environment;

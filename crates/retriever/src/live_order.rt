@@ -29,7 +29,7 @@ use std::io::Write;
 use std::mem;
 use std::sync::Wait;
 use std::thread::Threads;
-use streams::ReadFault;
+use streams::ReadInputFault;
 use workers::{Halt, Harvest};
 
 /// A record without entries.
@@ -326,7 +326,7 @@ fn hold<S: System>(system: &S, order: &Order) -> Result<(), ResumeFault>
     match system.hold(path.as_str(), resumed) {
         Ok(()) => Ok(()),
         Err(HoldFault::Refused) => Err(ResumeFault::Refused),
-        Err(HoldFault::Memory) => Err(ResumeFault::Read(ReadFault::Memory)),
+        Err(HoldFault::Memory) => Err(ResumeFault::Read(ReadInputFault::Memory)),
     }
 }
 
@@ -344,7 +344,7 @@ fn begin_index<S: System>(system: &S, order: &Order) -> Result<(), ResumeFault>
     match system.begin_index(order) {
         Ok(()) => Ok(()),
         Err(HoldFault::Refused) => Err(ResumeFault::Discontinued),
-        Err(HoldFault::Memory) => Err(ResumeFault::Read(ReadFault::Memory)),
+        Err(HoldFault::Memory) => Err(ResumeFault::Read(ReadInputFault::Memory)),
     }
 }
 

@@ -6,13 +6,13 @@ ghost use Rattle.retriever.specs.declared.resume_fault.ResumeFault.TheVariants.{
 use crate::fault::with_newline;
 use site_inputs::InputFault;
 use std::alloc::{AllocError, Global};
-use streams::ReadFault;
+use streams::ReadInputFault;
 
 /// Why a run doesn't go on from a record.
 #[derive(Clone, Copy)]
 pub(crate) enum ResumeFault {
     /// The file can't be read, or memory ran out.
-    Read(ReadFault),
+    Read(ReadInputFault),
     /// What it holds is no record, or memory ran out.
     Input(InputFault),
     /// Nothing may be saved at the place where the run is to save.
@@ -27,9 +27,9 @@ pub(crate) fn resume_status(fault: ResumeFault) -> u8
     ensures { result ≡ resume_status fault }
 {
     match fault {
-        ResumeFault::Read(ReadFault::Failed) => 3,
-        ResumeFault::Read(ReadFault::Long) => 2,
-        ResumeFault::Read(ReadFault::Memory) => 1,
+        ResumeFault::Read(ReadInputFault::Failed) => 3,
+        ResumeFault::Read(ReadInputFault::Long) => 2,
+        ResumeFault::Read(ReadInputFault::Memory) => 1,
         ResumeFault::Input(InputFault::Line(_) | InputFault::Address(_)) => 2,
         ResumeFault::Input(InputFault::Memory) => 1,
         ResumeFault::Refused => 3,
@@ -38,13 +38,13 @@ pub(crate) fn resume_status(fault: ResumeFault) -> u8
 }
 
 // The words for a file that can't be had.
-fn reading_words(wrong: ReadFault) -> &'static str
+fn reading_words(wrong: ReadInputFault) -> &'static str
     ensures { result.now ≡ resume_words (Read wrong) }
 {
     match wrong {
-        ReadFault::Failed => "resume read",
-        ReadFault::Long => "resume long",
-        ReadFault::Memory => "stopped memory",
+        ReadInputFault::Failed => "resume read",
+        ReadInputFault::Long => "resume long",
+        ReadInputFault::Memory => "stopped memory",
     }
 }
 
@@ -72,13 +72,13 @@ pub(crate) fn resume_text(alloc: Global, fault: ResumeFault) -> Result<String, A
     with_newline(alloc, words)
 }
 
-impl From<ReadFault> for ResumeFault {
+impl From<ReadInputFault> for ResumeFault {
     ghost use Rattle.std.specs.Prelude.{◌≡◌};
     ghost use Rattle.retriever.specs.declared.resume_fault.ResumeFault.TheVariants.{Read};
 
     ghost from_gives = { λ wrong fault. fault ≡ Read wrong };
 
-    fn from(wrong: ReadFault) -> ResumeFault {
+    fn from(wrong: ReadInputFault) -> ResumeFault {
         ResumeFault::Read(wrong)
     }
 }
@@ -97,11 +97,11 @@ impl From<InputFault> for ResumeFault {
 impl From<AllocError> for ResumeFault {
     ghost use Rattle.std.specs.Prelude.{◌≡◌};
     ghost use Rattle.retriever.specs.declared.resume_fault.ResumeFault.TheVariants.{Read};
-    ghost use Rattle.streams.specs.declared.input.ReadFault.TheVariants.{Memory};
+    ghost use Rattle.streams.specs.declared.input.ReadInputFault.TheVariants.{Memory};
 
     ghost from_gives = { λ _ fault. fault ≡ Read Memory };
 
     fn from(_: AllocError) -> ResumeFault {
-        ResumeFault::Read(ReadFault::Memory)
+        ResumeFault::Read(ReadInputFault::Memory)
     }
 }

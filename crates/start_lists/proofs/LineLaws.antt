@@ -10,8 +10,8 @@ use Rattle.std.proofs.lemmas.Str.{IsUtf8-from_is_utf8}
 use Rattle.address.specs.Address.{AddressText}
 use Rattle.html_links.specs.Values.{trimmed}
 use Rattle.start_lists.specs.Lists.{AreGood, IsNoList, is_passed, line_start, lines_of, starts_of_line, starts_of_lines}
-use Rattle.start_lists.specs.declared.lines.LineFault.{LineFault}
-use Rattle.start_lists.specs.declared.lines.LineFault.TheVariants as line_fault
+use Rattle.start_lists.specs.declared.lines.StartFault.{StartFault}
+use Rattle.start_lists.specs.declared.lines.StartFault.TheVariants as line_fault
 use Rattle.start_lists.specs.declared.lines.TheConstants.{MAX_LINES}
 use Rattle.start_lists.specs.inner.Lines.{numbered}
 
@@ -56,7 +56,7 @@ few_push lines line empty few = elim (cases_lt (length lines) MAX_LINES) [
 ]
 
 -- the first line that is bad is named, unless memory ran out
-pub first_bad : (by_proxy : Bool) (base : Option AddressText) (text : List ℕ) (k : ℕ) (line : List ℕ) (wrong : LineFault) → slice_get (lines_of text) k ≡ Some line → AreGood by_proxy base (take k (lines_of text))
+pub first_bad : (by_proxy : Bool) (base : Option AddressText) (text : List ℕ) (k : ℕ) (line : List ℕ) (wrong : StartFault) → slice_get (lines_of text) k ≡ Some line → AreGood by_proxy base (take k (lines_of text))
     → (starts_of_line by_proxy base line ≡ None) ⊎ (wrong ≡ line_fault.Memory) → IsNoList by_proxy base text (numbered wrong (k + 1))
 first_bad by_proxy base text k line line_fault.Memory at good bad = refl
 first_bad by_proxy base text k line line_fault.Bad at good (inl none) = record { place = k; line = line; is = at; good = good; bad = none; counted = refl }

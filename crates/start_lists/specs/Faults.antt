@@ -1,7 +1,7 @@
 -- The line of each fault of a file of starts, and its status.
 use Rattle.std.specs.Prelude.{◌++◌, ℕ, List, codes, decimal}
-use Rattle.streams.specs.declared.input.ReadFault.{ReadFault}
-use Rattle.streams.specs.declared.input.ReadFault.TheVariants as reading
+use Rattle.streams.specs.declared.input.ReadInputFault.{ReadInputFault}
+use Rattle.streams.specs.declared.input.ReadInputFault.TheVariants as reading
 use Rattle.start_lists.specs.declared.fault.ListFault.{ListFault}
 use Rattle.start_lists.specs.declared.fault.ListFault.TheVariants as fault
 
@@ -22,7 +22,7 @@ list_status (fault.Line number) = 2
 list_status fault.Memory = 1
 
 -- why a file that can't be read gives none
-abbrev pub unread : ReadFault → ListFault
+abbrev pub unread : ReadInputFault → ListFault
 unread reading.Long = fault.Long
 unread reading.Failed = fault.Read
 unread reading.Memory = fault.Memory

@@ -4,7 +4,7 @@ ghost use Rattle.start_lists.specs.Faults.{list_words};
 
 use options::LineFault;
 use std::alloc::{AllocError, Global};
-use streams::ReadFault;
+use streams::ReadInputFault;
 
 /// Why a file of starts gives none. Lines are counted from 1; the first bad line is named.
 #[derive(Clone, Copy, Debug, PartialEq, Eq)]
@@ -107,17 +107,17 @@ impl From<AllocError> for ListFault {
     }
 }
 
-impl From<ReadFault> for ListFault {
+impl From<ReadInputFault> for ListFault {
     ghost use Rattle.std.specs.Prelude.{◌≡◌};
     ghost use Rattle.start_lists.specs.Faults.{unread};
 
     ghost from_gives = { λ wrong fault. fault ≡ unread wrong };
 
-    fn from(wrong: ReadFault) -> ListFault {
+    fn from(wrong: ReadInputFault) -> ListFault {
         match wrong {
-            ReadFault::Long => ListFault::Long,
-            ReadFault::Failed => ListFault::Read,
-            ReadFault::Memory => ListFault::Memory,
+            ReadInputFault::Long => ListFault::Long,
+            ReadInputFault::Failed => ListFault::Read,
+            ReadInputFault::Memory => ListFault::Memory,
         }
     }
 }

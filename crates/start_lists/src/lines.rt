@@ -5,7 +5,7 @@ ghost use Rattle.html_links.specs.Values.{trimmed};
 ghost use Rattle.options.specs.Start.{with_scheme};
 ghost use Rattle.start_lists.specs.Lists.{IsList, IsNoList, is_passed, line_start, resolved, starts_of_line, unless_robots, with_scheme_unless};
 ghost use Rattle.start_lists.specs.inner.Lines.{Adds, numbered};
-ghost use Rattle.start_lists.specs.declared.lines.LineFault.TheVariants as line_fault;
+ghost use Rattle.start_lists.specs.declared.lines.StartFault.TheVariants as line_fault;
 
 use crate::fault::ListFault;
 use crate::resolved::{resolved, unless_robots};
@@ -19,14 +19,14 @@ pub const MAX_LINES: usize = 1_000_000;
 
 /// What is wrong with a line.
 #[derive(Clone, Copy)]
-pub(crate) enum LineFault {
+pub(crate) enum StartFault {
     /// It is no address, or a robots file's.
     Bad,
     /// Memory ran out.
     Memory,
 }
 
-impl LineFault {
+impl StartFault {
     ghost use Rattle.std.specs.Prelude.{◌≡◌};
     ghost use Rattle.start_lists.specs.inner.Lines.{numbered};
 
@@ -35,8 +35,8 @@ impl LineFault {
         ensures { result ≡ numbered self number }
     {
         match self {
-            LineFault::Bad => ListFault::Line(number),
-            LineFault::Memory => ListFault::Memory,
+            StartFault::Bad => ListFault::Line(number),
+            StartFault::Memory => ListFault::Memory,
         }
     }
 }
@@ -93,16 +93,16 @@ fn trimmed(line: &[u8]) -> &[u8]
 }
 
 // Adds the start that a line names, if it names one.
-fn push_start(starts: &mut Vec<Address>, named: Option<Address>) -> Result<(), LineFault>
+fn push_start(starts: &mut Vec<Address>, named: Option<Address>) -> Result<(), StartFault>
     ensures good { OnOk result (Adds (option_map (λ start. start ∷ []) named) starts.old.items starts.new.items) }
     ensures bad { IfErr result (λ wrong. (named ≡ None) ⊎ (wrong ≡ line_fault.Memory)) }
 {
     match named {
         Some(start) => match starts.push(start) {
             Ok(()) => Ok(()),
-            Err(_) => Err(LineFault::Memory),
+            Err(_) => Err(StartFault::Memory),
         },
-        None => Err(LineFault::Bad),
+        None => Err(StartFault::Bad),
     }
 }
 
@@ -113,7 +113,7 @@ fn push_line(
     by_proxy: bool,
     base: Option<&Address>,
     line: &[u8],
-) -> Result<(), LineFault>
+) -> Result<(), StartFault>
     ensures good { OnOk result (Adds (starts_of_line by_proxy (option_map (λ b. b.now) base.entry) line.now) starts.old.items starts.new.items) }
     ensures bad { IfErr result (λ wrong. (starts_of_line by_proxy (option_map (λ b. b.now) base.entry) line.now ≡ None) ⊎ (wrong ≡ line_fault.Memory)) }
 {
@@ -123,7 +123,7 @@ fn push_line(
     }
     match line_start(alloc, by_proxy, base, line) {
         Ok(named) => push_start(starts, named),
-        Err(_) => Err(LineFault::Memory),
+        Err(_) => Err(StartFault::Memory),
     }
 }
 

@@ -8,7 +8,7 @@ use std::io::Read;
 
 /// Why there is no input.
 #[derive(Clone, Copy, Debug, PartialEq, Eq)]
-pub enum ReadFault {
+pub enum ReadInputFault {
     /// There are more bytes than the limit.
     Long,
     /// The reader failed, or was interrupted too often.
@@ -17,14 +17,14 @@ pub enum ReadFault {
     Memory,
 }
 
-impl From<AllocError> for ReadFault {
+impl From<AllocError> for ReadInputFault {
     ghost use Rattle.std.specs.Prelude.{◌≡◌};
-    ghost use Rattle.streams.specs.declared.input.ReadFault.TheVariants.{Memory};
+    ghost use Rattle.streams.specs.declared.input.ReadInputFault.TheVariants.{Memory};
 
     ghost from_gives = { λ _ fault. fault ≡ Memory };
 
-    fn from(_: AllocError) -> ReadFault {
-        ReadFault::Memory
+    fn from(_: AllocError) -> ReadInputFault {
+        ReadInputFault::Memory
     }
 }
 
@@ -36,10 +36,10 @@ pub fn read_input<R: Read>(
     alloc: Global,
     reader: &mut R,
     limit: usize,
-) -> Result<Vec<u8>, ReadFault>
+) -> Result<Vec<u8>, ReadInputFault>
     ensures whole { IfOk result (λ input. IsInput (R.remaining reader.old) input.items) }
     ensures within { IfOk result (λ input. length input.items ≤ limit) }
-    ensures long { result ≡ Err ReadFault.Long → (input : List ℕ) × IsInput (R.remaining reader.old) input × (limit < length input) }
+    ensures long { result ≡ Err ReadInputFault.Long → (input : List ℕ) × IsInput (R.remaining reader.old) input × (limit < length input) }
 {
     let mut input = Vec::new(alloc);
     let mut piece = [0u8; PIECE];
@@ -49,13 +49,13 @@ pub fn read_input<R: Read>(
             Ok(0) => return Ok(input),
             Ok(n) => {
                 if n > limit - input.len() {
-                    return Err(ReadFault::Long);
+                    return Err(ReadInputFault::Long);
                 }
                 input.extend_from_slice(&piece[..n])?;
             }
             Err(error) => match count_interrupted(&error, interrupted) {
                 Some(count) => interrupted = count,
-                None => return Err(ReadFault::Failed),
+                None => return Err(ReadInputFault::Failed),
             },
         }
     }

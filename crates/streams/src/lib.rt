@@ -12,7 +12,7 @@ mod output;
 mod pieces;
 
 pub use close::Close;
-pub use input::{ReadFault, read_input};
+pub use input::{ReadInputFault, read_input};
 pub use interruption::MAX_INTERRUPTED;
 pub use lock::Lock;
 pub use output::{WriteFailed, write_text};

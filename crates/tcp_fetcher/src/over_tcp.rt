@@ -21,7 +21,7 @@ use html_links::LinkRules;
 use http_fetcher::HttpFetcher;
 use kept_bodies::Keeper;
 use pacing::{Manner, Retries};
-use progress::Progress;
+use progress::ProgressLine;
 use requests::{Condition, Proxies, Sending};
 use response_answer::PageSink;
 use response_reader::Limits;
@@ -92,7 +92,7 @@ impl<'a, R: Net + Wait + Clock + Eprint> OverTcp<'a, R> {
         alloc: Global,
         hosts: &'a Hosts,
         kept: &'a Kept<R::Stream>,
-        progress: &'a Progress<'a, R>,
+        progress: &'a ProgressLine<'a, R>,
         links: LinkRules,
         most: Option<u32>,
         proxies: Proxies,

@@ -6,7 +6,7 @@ ghost use Rattle.connect.specs.Connects.{CountsRefusal};
 use address::Origin;
 use connect::{Connect, ConnectFault};
 use pacing::Manner;
-use progress::{Progress, Watched, WatchedWire};
+use progress::{ProgressLine, Watched, WatchedWire};
 use requests::Proxies;
 use response_reader::{TcpWire, Wire, WireFault};
 use retries::CallingConnect;
@@ -62,7 +62,7 @@ impl<'a, R: Net + Wait + Clock + Eprint> WatchedTcp<'a, R> {
         alloc: Global,
         hosts: &'a Hosts,
         kept: &'a Kept<R::Stream>,
-        progress: &'a Progress<'a, R>,
+        progress: &'a ProgressLine<'a, R>,
         most: Option<u32>,
         proxies: Proxies,
         manner: Manner,

@@ -3,10 +3,10 @@
 #![tactic(auto)]
 
 use host_system::{
-    EarlyRun, IndexRun, Network, Output, PartThreads, PartsDir, RejectedFile, SharedFailures,
+    EarlyRun, HostSystem, IndexRun, Output, PartThreads, PartsDir, RejectedFile, SharedFailures,
     StandIns, jar_of, starts_of,
 };
-use progress::{BehindLine, Progress};
+use progress::{BehindLine, ProgressLine};
 use record_journal::Saving;
 use retriever::{arguments, refuse_cookies, refuse_starts, run_program, telling_of, with_starts};
 use std::io::{IsTerminal, Write};
@@ -83,13 +83,13 @@ fn main(rt: HostRuntime) -> ExitCode {
         failures.tell(&rt, &mut rt.stderr());
         return ExitCode::from(3);
     };
-    let progress = Progress::new(&rt, is_shown);
+    let progress = ProgressLine::new(&rt, is_shown);
     let saving = Saving::new();
     let crew = PartThreads::new(&rt, &rt);
     let parts = PartsDir::new(rt.alloc());
     let early = EarlyRun::new(rt.alloc());
     let index = IndexRun::new(rt.alloc());
-    let network = Network::new(
+    let network = HostSystem::new(
         &rt,
         rt.alloc(),
         &hosts,

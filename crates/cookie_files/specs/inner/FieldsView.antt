@@ -1,7 +1,7 @@
 -- What the fields of the code's own type are.
 use Rattle.std.specs.Prelude.{Option, Result, Ok, Err, option_map}
 use Rattle.cookie_files.specs.Lines as lines
-use Rattle.cookie_files.specs.declared.fault.LineFault.{LineFault}
+use Rattle.cookie_files.specs.declared.fault.CookieLineFault.{CookieLineFault}
 use Rattle.cookie_files.specs.declared.fields.Fields.{Fields}
 
 -- the fields as the definitions have them
@@ -18,6 +18,6 @@ fields_value fields =
     }
 
 -- and what a line says
-abbrev pub said_value : Result (Option Fields) LineFault → Result (Option lines.Fields) LineFault
+abbrev pub said_value : Result (Option Fields) CookieLineFault → Result (Option lines.Fields) CookieLineFault
 said_value (Ok said) = Ok (option_map fields_value said)
 said_value (Err why) = Err why
