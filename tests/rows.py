@@ -1,4 +1,11 @@
 """The rows of a test: each is told when it is over, and all are counted on the last line, which tests/run adds up."""
+import resource
+
+
+def processor_seconds():
+    """How long the children that have ended were on a processor, which other work of this machine hardly changes."""
+    used = resource.getrusage(resource.RUSAGE_CHILDREN)
+    return used.ru_utime + used.ru_stime
 
 
 class Rows:
