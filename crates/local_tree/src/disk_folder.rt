@@ -79,6 +79,8 @@ pub struct DiskFolder<'a, R: Files> {
     // Those that couldn't be moved back from the names that they were given early, and whether some aren't among them.
     stuck: Vec<Part>,
     are_all_stuck: bool,
+    // Whether one was moved back.
+    has_moved_back: bool,
     // Where parts are made, while files are put.
     own: Option<OwnDir<R::File>>,
     known: Known,
@@ -355,6 +357,7 @@ where
             parts: String::new(alloc),
             stuck: Vec::new(alloc),
             are_all_stuck: false,
+            has_moved_back: false,
             own: None,
             known: Known::nothing(alloc),
             originals: Originals::None,

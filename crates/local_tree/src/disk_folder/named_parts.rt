@@ -172,8 +172,9 @@ where
     pub fn take_back(&mut self, name: &str, part: &Part)
         ensures { self.new ≡ self.old }
     {
-        if self.move_back(name, part).is_err() {
-            self.give_up(part);
+        match self.move_back(name, part) {
+            Ok(()) => self.has_moved_back = true,
+            Err(_) => self.give_up(part),
         }
         self.known.forget();
     }
@@ -213,6 +214,9 @@ where
     {
         if self.is_stuck(part) {
             return Err(Error::from(ErrorKind::Other));
+        }
+        if !self.has_moved_back {
+            return Ok(());
         }
         let path = part_path(self.alloc, self.parts.as_str(), part.worker, part.number)?;
         match self.rt.symlink_metadata(path.as_str()) {
