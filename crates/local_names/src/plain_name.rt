@@ -26,7 +26,7 @@ pub const PART: &str = ".wgetr%";
 fn decoded(alloc: Global, text: &[u8]) -> Result<Vec<u8>, AllocError>
     ensures { IfOk result (λ bytes. bytes.items ≡ percent_decode text.now) }
 {
-    let mut bytes = Vec::new(alloc);
+    let mut bytes = Vec::with_capacity(alloc, text.len())?;
     percent_decode(text).append_to(&mut bytes)?;
     Ok(bytes)
 }
@@ -60,7 +60,7 @@ fn host_units(alloc: Global, rules: &NameRules, page: &Address) -> Result<Vec<Un
     ensures { IfOk result (λ units. map unit_text units.items ≡ host_units rules.now page.now) }
 {
     let chars = rules.chars.with_letters();
-    let mut units = Vec::new(alloc);
+    let mut units = Vec::with_capacity(alloc, page.authority().len())?;
     push_units(&mut units, chars, page.host().as_bytes())?;
     push_marked(&mut units, chars, port_mark(chars), port_text(page))?;
     Ok(units)
@@ -90,7 +90,7 @@ fn path_units(alloc: Global, rules: &NameRules, segment: &[u8]) -> Result<Vec<Un
     ensures { IfOk result (λ units. map unit_text units.items ≡ path_units rules.now segment.now) }
 {
     let text = decoded(alloc, segment)?;
-    let mut units = Vec::new(alloc);
+    let mut units = Vec::with_capacity(alloc, text.len())?;
     push_units(&mut units, rules.chars, &text)?;
     Ok(units)
 }
