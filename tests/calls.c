@@ -12,6 +12,7 @@
 //   gone           before the first such call the file is removed, and its directory with it
 //   moved          before the first such call the file gets another name, with `.moved` at its end
 //   A+B..          getaddrinfo answers these addresses, in this order
+//   never          getaddrinfo doesn't answer as long as a test lasts
 //   long           fstat says that the file is 2^31 bytes longer
 //   small          a connection has as little room as can be for what is sent
 #define _GNU_SOURCE
@@ -207,6 +208,10 @@ int getaddrinfo(const char *host, const char *port, const struct addrinfo *hints
     char *plan = plan_of("getaddrinfo", name), *address;
     if (!plan)
         return NEXT(getaddrinfo)(host, port, hints, found);
+    if (!strcmp(plan, "never")) {
+        sleep(3600);
+        return EAI_AGAIN;
+    }
     struct addrinfo **last = found;
     *found = NULL;
     while ((address = strsep(&plan, "+"))) {

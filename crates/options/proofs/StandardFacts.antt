@@ -50,7 +50,7 @@ forms : map forms_of table ≡ (codes "r", codes "recursive", None) ∷ (codes "
     ∷ ([], codes "load-cookies", Some (codes "FILE")) ∷ (codes "w", codes "wait", Some (codes "S"))
     ∷ ([], codes "random-wait", None) ∷ ([], codes "crawl-delay", None) ∷ (codes "t", codes "tries", Some (codes "N")) ∷ ([], codes "waitretry", Some (codes "S"))
     ∷ ([], codes "retry-connrefused", None) ∷ ([], codes "retry-on-host-error", None) ∷ ([], codes "retry-on-http-error", Some (codes "LIST"))
-    ∷ (codes "T", codes "timeout", Some (codes "S")) ∷ ([], codes "connect-timeout", Some (codes "S")) ∷ ([], codes "read-timeout", Some (codes "S"))
+    ∷ (codes "T", codes "timeout", Some (codes "S")) ∷ ([], codes "dns-timeout", Some (codes "S")) ∷ ([], codes "connect-timeout", Some (codes "S")) ∷ ([], codes "read-timeout", Some (codes "S"))
     ∷ ([], codes "answer-timeout", Some (codes "S")) ∷ ([], codes "max-body", Some (codes "BYTES")) ∷ ([], codes "limit-rate", Some (codes "R")) ∷ (codes "Q", codes "quota", Some (codes "N")) ∷ (codes "4", codes "inet4-only", None) ∷ (codes "6", codes "inet6-only", None)
     ∷ ([], codes "https-proxy", Some (codes "URL")) ∷ ([], codes "trust-proxy", None)
     ∷ ([], codes "http-proxy", Some (codes "URL")) ∷ ([], codes "without-proxy", Some (codes "LIST")) ∷ ([], codes "no-proxy", None)

@@ -62,9 +62,10 @@ family_of found =
 -- what the options say of how servers are treated; nothing if a value can't be
 unfoldable pub manner_of : List Row → Option Mannered
 manner_of found =
-    option_and_then (λ wait. option_and_then (λ connect. option_and_then (λ read. option_and_then (λ answer. option_and_then (λ body. option_and_then (λ rate. option_map (λ family. record {
+    option_and_then (λ wait. option_and_then (λ lookup. option_and_then (λ connect. option_and_then (λ read. option_and_then (λ answer. option_and_then (λ body. option_and_then (λ rate. option_map (λ family. record {
       wait = wait;
       is_random = is_set (codes "random-wait") found;
+      lookup_limit = lookup;
       connect_limit = connect;
       read_limit = read;
       answer_limit = answer;
@@ -79,4 +80,5 @@ manner_of found =
     (limit_by None (first_of (codes "answer-timeout") found)))
     (limit_of (codes "read-timeout") (Some (900 * 1_000_000_000)) found))
     (limit_of (codes "connect-timeout") None found))
+    (limit_of (codes "dns-timeout") None found))
     (wait_by (first_of (codes "wait") found))

@@ -134,6 +134,7 @@ pub(crate) fn manner(matches: &ArgMatches) -> Option<Manner>
 {
     let usual = Manner::usual();
     let wait = wait(matches)?;
+    let lookup_limit = limit_of(matches, "dns-timeout", usual.lookup_limit)?;
     let connect_limit = limit_of(matches, "connect-timeout", usual.connect_limit)?;
     let read_limit = limit_of(matches, "read-timeout", usual.read_limit)?;
     let answer_limit = limit_by(given(matches, "answer-timeout"), usual.answer_limit)?;
@@ -143,6 +144,7 @@ pub(crate) fn manner(matches: &ArgMatches) -> Option<Manner>
     Some(Manner {
         wait,
         is_random: is_set(matches, "random-wait"),
+        lookup_limit,
         connect_limit,
         read_limit,
         answer_limit,

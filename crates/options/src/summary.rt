@@ -13,7 +13,7 @@ pub(crate) struct Summary<T> {
 }
 
 // An option that isn't here isn't in the help.
-const SUMMARY: [Summary<&str>; 100] = [
+const SUMMARY: [Summary<&str>; 101] = [
     Summary {
         name: "recursive",
         says: "follow links",
@@ -184,7 +184,11 @@ const SUMMARY: [Summary<&str>; 100] = [
     },
     Summary {
         name: "timeout",
-        says: "S to connect and for each read; 0 is no limit",
+        says: "S to look up, connect or read; 0 is no limit",
+    },
+    Summary {
+        name: "dns-timeout",
+        says: "S to look a host up",
     },
     Summary {
         name: "connect-timeout",

@@ -40,7 +40,7 @@ pub(crate) struct Row<T> {
 }
 
 /// The options. What each does is in `summary.rt`: a constant's proof takes time for each pair of a text and a byte in it.
-const TABLE: [Row<&str>; 101] = [
+const TABLE: [Row<&str>; 102] = [
     Row {
         short: "r",
         name: "recursive",
@@ -302,6 +302,12 @@ const TABLE: [Row<&str>; 101] = [
     Row {
         short: "T",
         name: "timeout",
+        kind: Kind::Value("S"),
+        heading: "",
+    },
+    Row {
+        short: "",
+        name: "dns-timeout",
         kind: Kind::Value("S"),
         heading: "",
     },
@@ -925,7 +931,7 @@ pub(crate) struct Instead<T> {
 }
 
 /// What to do in place of Wget's options, if there is something. None of these forms is read.
-const INSTEAD: [Instead<&str>; 60] = [
+const INSTEAD: [Instead<&str>; 59] = [
     Instead {
         form: "--background",
         advice: "& of the shell, or nohup",
@@ -985,10 +991,6 @@ const INSTEAD: [Instead<&str>; 60] = [
     Instead {
         form: "--delete-after",
         advice: "-P DIR, and remove DIR afterwards",
-    },
-    Instead {
-        form: "--dns-timeout",
-        advice: "options timeout:N in /etc/resolv.conf limits look-ups",
     },
     Instead {
         form: "--bind-address",
@@ -1225,7 +1227,7 @@ pub(crate) struct Command<T> {
 }
 
 /// The commands of wgetrc whose options are here.
-const COMMANDS: [Command<&str>; 83] = [
+const COMMANDS: [Command<&str>; 84] = [
     Command {
         name: "accept",
         option: "accept",
@@ -1293,6 +1295,10 @@ const COMMANDS: [Command<&str>; 83] = [
     Command {
         name: "dirstruct",
         option: "force-directories",
+    },
+    Command {
+        name: "dnstimeout",
+        option: "dns-timeout",
     },
     Command {
         name: "domains",

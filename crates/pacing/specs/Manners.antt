@@ -6,12 +6,13 @@ use Rattle.pacing.specs.declared.manner.Family.TheVariants.{Any}
 use Rattle.pacing.specs.declared.manner.Manner.{Manner}
 use Rattle.pacing.specs.declared.span.TheConstants.{MAX_SPAN}
 
--- the pause between the beginnings of two requests to an origin, whether it varies, the limits of a connection's making, of a read
--- or a write and of a whole answer, all in nanoseconds, the most bytes of a body that goes to a file, how many bytes a second may be read, whether an origin's robots file
+-- the pause between the beginnings of two requests to an origin, whether it varies, the limits of a host's look-up, of a connection's
+-- making, of a read or a write and of a whole answer, all in nanoseconds, the most bytes of a body that goes to a file, how many bytes a second may be read, whether an origin's robots file
 -- may lengthen the pause, and which addresses of a host are connected to
 pub record Mannered : Type 0 where
   pub wait : ℕ
   pub is_random : Bool
+  pub lookup_limit : Option ℕ
   pub connect_limit : Option ℕ
   pub read_limit : Option ℕ
   pub answer_limit : Option ℕ
@@ -25,6 +26,7 @@ abbrev pub mannered : Manner → Mannered
 mannered manner = record {
   wait = as_nanos manner.wait;
   is_random = manner.is_random;
+  lookup_limit = option_map as_nanos manner.lookup_limit;
   connect_limit = option_map as_nanos manner.connect_limit;
   read_limit = option_map as_nanos manner.read_limit;
   answer_limit = option_map as_nanos manner.answer_limit;
@@ -40,6 +42,7 @@ abbrev pub usual : Mannered
 usual = record {
   wait = 0;
   is_random = false;
+  lookup_limit = None;
   connect_limit = None;
   read_limit = Some (900 * 1_000_000_000);
   answer_limit = None;

@@ -31,6 +31,8 @@ pub struct Manner {
     pub wait: Duration,
     /// Whether that pause varies.
     pub is_random: bool,
+    /// How long a host may take to be looked up, if there is a limit besides the system's.
+    pub lookup_limit: Option<Duration>,
     /// How long a connection may take to be made, if there is a limit besides the system's.
     pub connect_limit: Option<Duration>,
     /// How long a read or a write may wait, if there is a limit.
@@ -79,6 +81,7 @@ impl Manner {
         Manner {
             wait: Duration::ZERO,
             is_random: false,
+            lookup_limit: None,
             connect_limit: None,
             read_limit: Some(Duration::from_secs(USUAL_READ_LIMIT)),
             answer_limit: None,

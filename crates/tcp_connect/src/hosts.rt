@@ -2,14 +2,18 @@
 ghost use Rattle.std.specs.Prelude.{◌<◌};
 
 use crate::lacks::{Lack, OpenFault, is_again, lack_of, lacks_descriptor};
+use crate::look_ups::Desk;
 use address::Origin;
 use indexmap::IndexMap;
-use pacing::{Flow, Turns};
+use pacing::{Flow, Manner, Turns};
+use run_failures::LossKind;
 use std::alloc::{AllocError, Global};
 use std::io::{Error, ErrorKind};
-use std::net::{Net, SocketAddr, ToSocketAddrs};
+use std::net::{IpAddr, Net, SocketAddr, ToSocketAddrs};
 use std::sync::atomic::{AtomicBool, AtomicU64, Ordering};
 use std::sync::{Arc, Mutex, Wait};
+use std::thread::Threads;
+use std::time::{Clock, Duration};
 
 /// What the connections of a run know of hosts, shared by all workers: each host's addresses, which servers keep their
 /// connections open, which don't answer, when an origin's next request may begin, and when the next read of all may.
@@ -24,6 +28,8 @@ pub struct Hosts {
     flow: Mutex<Flow>,
     // Whether an origin was to be left alone at some time.
     has_holds: AtomicBool,
+    // What looks hosts up within a limit, if anything does.
+    desk: Mutex<Option<Arc<Desk>>>,
     alloc: Global,
 }
 
@@ -38,6 +44,7 @@ impl Drop for Hosts {
             turns: _turns,
             flow: _flow,
             has_holds: _has_holds,
+            desk: _desk,
             alloc: _alloc,
         } = self;
     }
@@ -57,6 +64,8 @@ pub(crate) struct Known {
     pub(crate) addresses: Vec<SocketAddr>,
     // The one that took a connection last. It is in front.
     pub(crate) took: Option<SocketAddr>,
+    // Why a connection is lost if there is no address for it.
+    pub(crate) why: LossKind,
 }
 
 impl Hosts {
@@ -70,7 +79,41 @@ impl Hosts {
             turns: Mutex::new(Turns::new(alloc)),
             flow: Mutex::new(Flow::new()),
             has_holds: AtomicBool::new(false),
+            desk: Mutex::new(None),
             alloc,
+        }
+    }
+
+    /// Has hosts looked up in threads of their own from now on if this manner has a limit on that: without this call there is none. A look-up
+    /// that takes longer goes on until the resolver ends it, and nobody waits for it. The error is that there is no memory, or no thread.
+    pub fn limit_lookups<R: Net + Wait + Threads + Copy + Send + 'static>(
+        &self,
+        rt: &R,
+        manner: &Manner,
+    ) -> Result<(), AllocError>
+    where
+        R::Stream: Send,
+        R::Listener: Send,
+    {
+        if manner.lookup_limit.is_none() {
+            return Ok(());
+        }
+        open_desk(rt, self.alloc, &mut self.desk.lock(rt))
+    }
+
+    // The addresses of the host of this name, looked up within a limit, if there is one.
+    fn look_up<R: Net + Wait + Clock>(
+        &self,
+        rt: &R,
+        name: &str,
+        limit: Option<Duration>,
+    ) -> Result<Vec<SocketAddr>, OpenFault> {
+        let desk = desk_among(&self.desk.lock(rt));
+        match (limit, desk) {
+            (Some(limit), Some(desk)) if !is_address(name) => {
+                desk.look_up(rt, self.alloc, name, limit)
+            }
+            _ => look_up(rt, self.alloc, name),
         }
     }
 
@@ -160,15 +203,35 @@ pub(crate) fn has(servers: &[SocketAddr], server: SocketAddr) -> bool {
     servers.iter().any(|known| *known == server)
 }
 
+impl Known {
+    // None of the addresses took a connection yet.
+    fn of(addresses: Vec<SocketAddr>, why: LossKind) -> Known {
+        Known {
+            addresses,
+            took: None,
+            why,
+        }
+    }
+
+    fn copied(&self) -> Result<Known, OpenFault> {
+        Ok(Known {
+            addresses: self.addresses.clone()?,
+            took: self.took,
+            why: self.why,
+        })
+    }
+}
+
 impl Host {
-    // What is known of the host. It is looked up if nobody did yet.
-    pub(crate) fn known<R: Net + Wait>(
+    // What is known of the host. It is looked up if nobody did yet, within a limit, if there is one.
+    pub(crate) fn known<R: Net + Wait + Clock>(
         &self,
         rt: &R,
-        alloc: Global,
+        hosts: &Hosts,
         name: &str,
+        limit: Option<Duration>,
     ) -> Result<Known, OpenFault> {
-        known_among(rt, alloc, name, &mut self.known.lock(rt))
+        known_among(rt, hosts, name, limit, &mut self.known.lock(rt))
     }
 
     // This address took a connection: the next one begins with it, and goes round.
@@ -181,6 +244,27 @@ impl Host {
 }
 
 // These functions take `&mut` to what is under a lock, so that no early return of theirs releases it.
+
+// Has look-ups made within limits, if they aren't yet.
+fn open_desk<R: Net + Wait + Threads + Copy + Send + 'static>(
+    rt: &R,
+    alloc: Global,
+    desk: &mut Option<Arc<Desk>>,
+) -> Result<(), AllocError>
+where
+    R::Stream: Send,
+    R::Listener: Send,
+{
+    if desk.is_none() {
+        *desk = Some(Desk::open(rt, alloc)?);
+    }
+    Ok(())
+}
+
+// What looks hosts up within a limit, if anything does.
+fn desk_among(desk: &Option<Arc<Desk>>) -> Option<Arc<Desk>> {
+    Arc::try_clone(desk.as_ref()?).ok()
+}
 
 // When a request to an origin is to begin, by the turns of the run.
 fn book_among(turns: &mut Turns, of: &Origin, now: u64, pause: u64) -> Result<u64, AllocError> {
@@ -255,29 +339,25 @@ fn add_host(
     Ok(host)
 }
 
-// What is known, or looked up now. Only an answer about the host is kept.
-fn known_among<R: Net>(
+// What is known, or looked up now. Only an answer about the host is kept, or that none came within the limit.
+fn known_among<R: Net + Wait + Clock>(
     rt: &R,
-    alloc: Global,
+    hosts: &Hosts,
     name: &str,
+    limit: Option<Duration>,
     known: &mut Option<Known>,
 ) -> Result<Known, OpenFault> {
     if let Some(known) = known {
-        return Ok(Known {
-            addresses: known.addresses.clone()?,
-            took: known.took,
-        });
+        return known.copied();
     }
-    let addresses = look_up(rt, alloc, name)?;
-    let copy = addresses.clone()?;
-    *known = Some(Known {
-        addresses,
-        took: None,
-    });
-    Ok(Known {
-        addresses: copy,
-        took: None,
-    })
+    let found = match hosts.look_up(rt, name, limit) {
+        Ok(addresses) => Known::of(addresses, LossKind::Unknown),
+        Err(OpenFault::Failed(why)) => Known::of(Vec::new(hosts.alloc), why),
+        Err(fault) => return Err(fault),
+    };
+    let copy = found.copied()?;
+    *known = Some(found);
+    Ok(copy)
 }
 
 // Puts this address in front, if it is there; the others follow as they go round.
@@ -294,6 +374,11 @@ fn plain_host(host: &str) -> &str {
         Some(rest) => rest.strip_suffix(']').unwrap_or(host),
         None => host,
     }
+}
+
+// Whether the host of a URL is an address, which needs no look-up.
+fn is_address(name: &str) -> bool {
+    plain_host(name).parse::<IpAddr>().is_ok()
 }
 
 // What is known if a look-up failed: no addresses, except if memory runs out or the system is short of something. The
@@ -315,7 +400,11 @@ fn none_found<R: Net>(rt: &R, alloc: Global, e: &Error) -> Result<Vec<SocketAddr
 }
 
 // The addresses of a host. A descriptor has to be there before it is asked, and after an answer that there is none.
-fn look_up<R: Net>(rt: &R, alloc: Global, name: &str) -> Result<Vec<SocketAddr>, OpenFault> {
+pub(crate) fn look_up<R: Net>(
+    rt: &R,
+    alloc: Global,
+    name: &str,
+) -> Result<Vec<SocketAddr>, OpenFault> {
     if lacks_descriptor(rt) {
         return Err(OpenFault::Lacking(Lack::Descriptor));
     }

@@ -7,11 +7,14 @@ ghost use Rattle.tcp_connect.specs.Standing.{waits, EndsFirst, Leaves, TakesKept
 pub(crate) use crate::standing::MOST;
 use crate::standing::{Entered, Standing};
 use address::Origin;
+use libc::net::{POLLIN, poll};
+use libc::types::pollfd;
 use run_failures::Unasked;
 use std::alloc::{AllocError, Global};
 use std::io::ErrorKind;
 use std::marker::Model;
 use std::net::OpenStream;
+use std::os::fd::AsRawFd;
 use std::sync::{Mutex, Wait};
 use std::time::{Clock, Instant};
 
@@ -230,7 +233,7 @@ impl<S: Drop> Kept<S> {
     }
 }
 
-impl<S: OpenStream + Drop> Kept<S> {
+impl<S: OpenStream + AsRawFd + Drop> Kept<S> {
     /// Ends those that wait. Each holds a descriptor, which files need too once a run has requested all.
     pub fn end_waiting<R: Wait>(&self, rt: &R) {
         for _ in 0..MOST {
@@ -318,8 +321,22 @@ enum Idle {
     Ended,
 }
 
+// Whether a connection is sure to have no bytes, no end and no fault to read. Nearly all have none, so it takes one call of the system.
+fn is_still<S: AsRawFd>(stream: &S) -> bool {
+    let fd = stream.as_raw_fd();
+    let mut asked = [pollfd {
+        fd,
+        events: POLLIN,
+        revents: 0,
+    }];
+    fd >= 0 && poll(&mut asked, 0) == 0
+}
+
 // Looks at a connection, and takes nothing from it.
-fn look_at<S: OpenStream>(stream: &S) -> Idle {
+fn look_at<S: OpenStream + AsRawFd>(stream: &S) -> Idle {
+    if is_still(stream) {
+        return Idle::Quiet;
+    }
     if stream.set_nonblocking(true).is_err() {
         return Idle::Ended;
     }

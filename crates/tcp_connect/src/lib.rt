@@ -8,6 +8,7 @@ mod flow;
 mod hosts;
 mod kept;
 mod lacks;
+mod look_ups;
 mod standing;
 mod tcp_connect;
 mod turn;

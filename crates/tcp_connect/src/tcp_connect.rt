@@ -38,7 +38,7 @@ struct Keeping<'a, S: Drop> {
 /// Makes connections over TCP, for one worker. A host is looked up once for a run, by whoever needs it first, and a lookup
 /// that failed isn't made again; its addresses are tried from the one that took a connection last, and a server that didn't
 /// answer within the system's time limit isn't tried again. There is no limit on the time of a lookup, nor of a connection's
-/// making, except the system's. What the system itself is short of, such as a descriptor or a port, says nothing of the
+/// making, except the system's, unless the [`Manner`] has one; that of lookups holds after [`Hosts::limit_lookups`]. What the system itself is short of, such as a descriptor or a port, says nothing of the
 /// host: it is waited for, and tried again. If connections are kept, one that waited is ended for it first.
 #[derive(Drop)]
 pub struct TcpConnect<'a, R: Net + Wait + Clock> {
@@ -118,7 +118,7 @@ fn stream_to<R: Net + Wait>(
     port: u16,
 ) -> Result<(R::Stream, SocketAddr), OpenFault> {
     let mut loss = None;
-    let mut fault = OpenFault::Failed(LossKind::Unknown);
+    let mut fault = OpenFault::Failed(known.why);
     for address in &known.addresses {
         if !is_of(manner.family, *address) {
             continue;
@@ -432,7 +432,7 @@ impl<'a, R: Net + Wait + Clock> TcpConnect<'a, R> {
 
     // A connection to the host of an origin. The host knows from then on which address took it.
     fn stream(&self, host: &Host, of: &Origin) -> Result<R::Stream, OpenFault> {
-        let known = host.known(self.rt, self.alloc, of.host())?;
+        let known = host.known(self.rt, self.hosts, of.host(), self.manner.lookup_limit)?;
         let (stream, took) = stream_to(self.rt, self.hosts, &self.manner, &known, of.port())?;
         if known.took != Some(took) {
             host.took(self.rt, took);

@@ -4,7 +4,7 @@
 
 use host_system::{
     EarlyRun, HostSystem, IndexRun, Output, PartThreads, PartsDir, RejectedFile, SharedFailures,
-    StandIns, jar_of, starts_of,
+    StandIns, jar_of, limit_lookups, starts_of,
 };
 use progress::{BehindLine, ProgressLine};
 use record_journal::Saving;
@@ -76,6 +76,18 @@ fn main(rt: HostRuntime) -> ExitCode {
     };
     let takes_failures = output.takes_failures();
     let hosts = Hosts::new(rt.alloc());
+    if limit_lookups(
+        &rt,
+        rt.alloc(),
+        &hosts,
+        arguments(&rt, rt.alloc()),
+        starts.as_slice(),
+    )
+    .is_err()
+    {
+        let _ = output.write_all(b"stopped memory\n");
+        return ExitCode::from(1);
+    }
     let kept = Kept::new(rt.alloc());
     let is_shown = rt.stderr().is_terminal() && !telling.is_quiet;
     let path = telling.into_rejected();

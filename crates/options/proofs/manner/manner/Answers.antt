@@ -10,7 +10,8 @@ pub returns : goal.returns
 returns c =
     let found = rows_of (found_of c.args.matches.now) in
     let usual = c.usual-usual.ensures in
-    sym (good-manner found _ _ _ _ _ _ _ _ _ c.is_set.ensures (sym c.in_ok-wait.ensures)
+    sym (good-manner found _ _ _ _ _ _ _ _ _ _ c.is_set.ensures (sym c.in_ok-wait.ensures)
+    (ap (λ u. limit_of (codes "dns-timeout") u found) (sym (ap (λ m. m.lookup_limit) usual)) ∙ sym c.in_ok-lookup_limit.ensures)
     (ap (λ u. limit_of (codes "connect-timeout") u found) (sym (ap (λ m. m.connect_limit) usual)) ∙ sym c.in_ok-connect_limit.ensures)
     (ap (λ u. limit_of (codes "read-timeout") u found) (sym (ap (λ m. m.read_limit) usual)) ∙ sym c.in_ok-read_limit.ensures)
     (ap (λ u. limit_by u (first_of (codes "answer-timeout") found)) (sym (ap (λ m. m.answer_limit) usual)) ∙ ap (limit_by _) (sym c.given.ensures) ∙ sym c.in_ok-answer_limit.ensures)
