@@ -1,5 +1,5 @@
 //! One page of an earlier run.
-ghost use Rattle.std.specs.Prelude.{◌≡◌, ◌++◌, IfOk, OnOk, Some, option_map};
+ghost use Rattle.std.specs.Prelude.{◌≡◌, ◌++◌, IfOk, IfSome, OnOk, Some, option_map};
 ghost use Rattle.std.specs.Fmt.{decimal};
 ghost use Rattle.std.specs.Io.KnownBytes.{prepend_known};
 ghost use Rattle.earlier_pages.specs.Pages.{condition_by, field_line, front_lines, recorded_head};
@@ -17,6 +17,8 @@ pub struct EarlierPage<'a, F: Read + Drop> {
     alloc: Global,
     entry: &'a Entry,
     file: F,
+    // Another file that may be the page's, with as many bytes.
+    other: Option<F>,
 }
 
 impl<'a, F: Read + Drop> Model for EarlierPage<'a, F> {
@@ -80,12 +82,32 @@ fn head_of(alloc: Global, entry: &Entry) -> Result<Vec<u8>, AllocError>
 }
 
 impl<'a, F: Read + Drop> EarlierPage<'a, F> {
-    // Of this entry, with its file, of which nothing was read.
-    pub(crate) fn new(alloc: Global, entry: &'a Entry, file: F) -> EarlierPage<'a, F>
+    // Of this entry, with its file, and perhaps another that may be its file. Nothing was read of them.
+    pub(crate) fn new(
+        alloc: Global,
+        entry: &'a Entry,
+        file: F,
+        other: Option<F>,
+    ) -> EarlierPage<'a, F>
         ensures entry { result.entry ≡ entry.now }
         ensures file { result.file ≡ file }
     {
-        EarlierPage { alloc, entry, file }
+        EarlierPage {
+            alloc,
+            entry,
+            file,
+            other,
+        }
+    }
+
+    /// The same page with the other file that may be its, if there is one: what is read if the first hasn't the bytes that it had. Gives it
+    /// once. Takes no memory.
+    pub fn take_other(&mut self) -> Option<EarlierPage<'a, F>>
+        ensures other { IfSome result (λ other. other.entry ≡ self.old.entry) }
+        ensures page { self.new ≡ self.old }
+    {
+        let file = self.other.take()?;
+        Some(EarlierPage::new(self.alloc, self.entry, file, None))
     }
 
     /// What the index says of it.
@@ -113,7 +135,12 @@ impl<'a, F: Read + Drop> EarlierPage<'a, F> {
         ensures head { IfOk result (λ stream. stream.rest ≡ recorded_head self.entry.entry) }
         ensures body { IfOk result (λ stream. stream.body ≡ self.entry.file) }
     {
-        let EarlierPage { alloc, entry, file } = self;
+        let EarlierPage {
+            alloc,
+            entry,
+            file,
+            other: _other,
+        } = self;
         let head = head_of(alloc, entry)?;
         Ok(RecordedStream::new(head, file))
     }

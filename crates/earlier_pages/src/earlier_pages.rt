@@ -5,7 +5,7 @@ ghost use Rattle.mirror_index.specs.Indexes.{HasThis};
 use crate::earlier_page::EarlierPage;
 use address::Address;
 use mirror_index::{Entry, MirrorIndex};
-use std::alloc::{AllocError, Global};
+use std::alloc::Global;
 use std::fs::{File, Files};
 use std::marker::Model;
 
@@ -56,29 +56,25 @@ impl EarlierPages {
         &self.index
     }
 
-    // The file of an entry, if it has as many bytes as it had: what was kept of it before its links were changed, if there is that, or
-    // the one of its own name.
-    fn file<R: Files>(&self, rt: &R, entry: &Entry) -> Result<Option<R::File>, AllocError> {
+    // The file of an entry's name with this ending, if it has as many bytes as the entry's had.
+    fn file<R: Files>(&self, rt: &R, entry: &Entry, ending: &str) -> Option<R::File> {
         let folder = self.folder.as_str();
         let name = entry.name();
-        for ending in [".orig", ""] {
-            let path = format!(in self.alloc; "{folder}/{name}{ending}")?;
-            if let Some(file) = file_at(rt, path.as_str(), entry.size()) {
-                return Ok(Some(file));
-            }
-        }
-        Ok(None)
+        let path = format!(in self.alloc; "{folder}/{name}{ending}").ok()?;
+        file_at(rt, path.as_str(), entry.size())
     }
 
     /// The page of an address, if one was kept and its file has as many bytes as it had: whether they are the same, who reads them finds
-    /// out. What can't be opened isn't there.
+    /// out. Its file is what was kept of it before its links were changed, or else the one of its own name; if both have so many bytes, that
+    /// one is its other. What can't be opened isn't there.
     pub fn page<R: Files>(&self, rt: &R, at: &Address) -> Option<EarlierPage<'_, R::File>>
         ensures { IfSome result (λ page. HasThis self.now at.now page.entry) }
     {
         let entry = self.index.entry(at)?;
-        let Ok(Some(file)) = self.file(rt, entry) else {
-            return None;
-        };
-        Some(EarlierPage::new(self.alloc, entry, file))
+        let own = self.file(rt, entry, "");
+        match self.file(rt, entry, ".orig") {
+            Some(file) => Some(EarlierPage::new(self.alloc, entry, file, own)),
+            None => Some(EarlierPage::new(self.alloc, entry, own?, None)),
+        }
     }
 }

@@ -1,9 +1,11 @@
 //! Pages that an earlier run left in a folder. Its one idea: a page of an earlier run is read like a response. It is there if its file has
-//! as many bytes as it had; whether they are the same, who reads it finds out by their SHA-256, so that no file is read twice.
+//! as many bytes as it had; whether they are the same, who reads it finds out by their SHA-256, so that no file is read twice. If two files
+//! may be its, the second is read only if the first has other bytes.
 //!
 //! ```
-//! let Some(page) = earlier.page(rt, &at) else { .. }; // to be requested as if nothing was there
+//! let Some(mut page) = earlier.page(rt, &at) else { .. }; // to be requested as if nothing was there
 //! let condition = page.condition()?;                  // with which it is requested
+//! let other = page.take_other();                      // with another file that may be its, if there is one
 //! let stream = page.into_stream()?;                   // the response again, if the server says that it is as it was
 //! ```
 #![tactic(auto)]

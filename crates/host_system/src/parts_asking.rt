@@ -58,10 +58,13 @@ impl<'a, R: Net + Wait + Files + Clock + Eprint> PartsAsking<'a, R>
 where
     R::File: Close + Lock,
 {
-    ghost use Rattle.std.specs.Prelude.{◌≡◌};
+    ghost use Rattle.std.specs.Prelude.{◌≡◌, IfSome};
+    ghost use Rattle.host_system.specs.EarlyParts.{HasWhole, NamedIfWhole};
 
     // The name that a part may have early, which no other page has: it is claimed.
-    fn claim(&self, at: &Address, part: &Part) -> Option<String> {
+    fn claim(&self, at: &Address, part: &Part) -> Option<String>
+        ensures { IfSome result (λ name. HasWhole part.now) }
+    {
         let Some(rules) = &self.rules else {
             return None;
         };
@@ -119,6 +122,7 @@ where
         ensures kind { result.kind ≡ part.kind }
         ensures len { result.len ≡ part.len }
         ensures received { result.is_received ≡ part.is_received }
+        ensures whole { NamedIfWhole part result }
         ensures inner { self.new.inner ≡ self.old.inner }
     {
         let Some(name) = self.claim(at, &part) else {

@@ -7,6 +7,10 @@ use Rattle.part_keeper.specs.declared.part.Part.{Part}
 abbrev pub holds_part : Part → BodyValue → Type 0
 holds_part part body = (body.kind ≡ part.kind) × (length body.bytes ≡ part.len)
 
+-- it may be this body's, which this run received
+abbrev pub holds_received : Part → BodyValue → Type 0
+holds_received part body = holds_part part body × (part.is_received ≡ true)
+
 -- so many bytes, if they were received
 abbrev pub len_if : Bool → ℕ → ℕ
 len_if true len = len

@@ -21,9 +21,9 @@ impl PartCounter {
 impl Keeper for PartCounter {
     type Kept = Part;
 
-    ghost use Rattle.part_keeper.specs.Parts.{holds_part};
+    ghost use Rattle.part_keeper.specs.Parts.{holds_received};
 
-    ghost holds = { holds_part };
+    ghost holds = { holds_received };
 
     ghost begun = { λ keeper bytes. length bytes ≡ keeper.len };
 

@@ -12,7 +12,7 @@ use Rattle.http_fetcher.specs.Fetching.{Fetching, StandsForOne, with_condition}
 use Rattle.http_fetcher.specs.Meanings.{MayAnswerWithin}
 use Rattle.mirror_index.specs.Entries.{Entry}
 use Rattle.mirror_index.specs.Indexes.{HasThis}
-use Rattle.part_keeper.specs.Parts.{holds_part}
+use Rattle.part_keeper.specs.Parts.{holds_part, holds_received}
 use Rattle.part_keeper.specs.declared.part.Part.{Part}
 use Rattle.pacing.specs.Retries.{Retried}
 use Rattle.requests.specs.Conditions.{Condition}
@@ -47,8 +47,13 @@ forgotten condition (Some sends) = refl
 
 -- an answer with a digest represents what it represents without
 pub stands_without : (limits : Limited) (links : LinkRules) (at : AddressText) (answer : Answer (Digested Part))
-    → StandsForAnswer (HoldsDigested holds_part) limits links at answer → StandsForAnswer holds_part limits links at (without_digest answer)
+    → StandsForAnswer (HoldsDigested holds_received) limits links at answer → StandsForAnswer holds_received limits links at (without_digest answer)
 stands_without limits links at answer (real, (outcome, (holds, digest)), may) = (real, (outcome, holds), may)
+
+-- what was received is one that the site may give
+pub stands_received : (limits : Limited) (links : LinkRules) (at : AddressText) (answer : Answer Part)
+    → StandsForAnswer holds_received limits links at answer → StandsForAnswer holds_part limits links at answer
+stands_received limits links at answer (real, (outcome, (holds, received)), may) = (real, (outcome, holds), may)
 
 module _ {C : Type 0} (limits : Limited) (at : AddressText) (retries : Retried) (ask : Ask) where
   bare : List (Answer (Digested Part) × Fetching C) → List (Answer Part × Fetching C)
@@ -61,8 +66,8 @@ module _ {C : Type 0} (limits : Limited) (at : AddressText) (retries : Retried) 
   bare_length (e ∷ es) = ap suc (bare_length es)
 
   tries_without : (old : Fetching C) (earlier : List (Answer (Digested Part) × Fetching C)) (new : Fetching C) (answer : Answer (Digested Part))
-      → AreTries asks_of (MayKeep (HoldsDigested holds_part) limits at) (is_worth_answer retries) ask old earlier new answer
-      → AreTries asks_of (MayKeep holds_part limits at) (is_worth_answer retries) ask old (bare earlier) new (without_digest answer)
+      → AreTries asks_of (MayKeep (HoldsDigested holds_received) limits at) (is_worth_answer retries) ask old earlier new answer
+      → AreTries asks_of (MayKeep holds_received limits at) (is_worth_answer retries) ask old (bare earlier) new (without_digest answer)
   unfolding bare
   tries_without old [] new answer tries = (tries.0, stands_without limits old.links at answer tries.1)
   tries_without old (e ∷ es) new answer tries =
@@ -70,8 +75,8 @@ module _ {C : Type 0} (limits : Limited) (at : AddressText) (retries : Retried) 
 
   -- what is received last is so without its digest
   pub last_without : (most : ℕ) (old new : Fetching C) (answer : Answer (Digested Part))
-      → IsLastOf asks_of (MayKeep (HoldsDigested holds_part) limits at) (is_worth_answer retries) ask most old new answer
-      → IsLastOf asks_of (MayKeep holds_part limits at) (is_worth_answer retries) ask most old new (without_digest answer)
+      → IsLastOf asks_of (MayKeep (HoldsDigested holds_received) limits at) (is_worth_answer retries) ask most old new answer
+      → IsLastOf asks_of (MayKeep holds_received limits at) (is_worth_answer retries) ask most old new (without_digest answer)
   last_without most old new answer (earlier, tries, few, inl worthless) =
       (bare earlier, tries_without old earlier new answer tries, subst (λ n. n ≤ most) (sym (bare_length earlier)) few, inl worthless)
   last_without most old new answer (earlier, tries, few, inr all) =
@@ -81,11 +86,11 @@ module _ {C : Type 0} (limits : Limited) (at : AddressText) (retries : Retried) 
 pub recorded : (limits : Limited) (links : LinkRules) (at : AddressText) (entry : Entry) (answer : Answer (Digested Part)) (digest : List ℕ) (status : ℕ)
     → digest ≡ entry.digest → status ≡ entry.head.status
     → (answer.body.digest ≡ Some digest) × (has_status answer.outcome status ≡ true)
-    → StandsForAnswer (HoldsDigested holds_part) limits links at answer
+    → StandsForAnswer (HoldsDigested holds_received) limits links at answer
     → (has_status answer.outcome entry.head.status ≡ true)
     × ((not_received (without_digest answer)).body.is_received ≡ false)
     × StandsForOne holds_part (not_received (without_digest answer)) (λ real. MayAnswerWithin limits links at real.outcome real.body × (sha256 real.body.bytes ≡ entry.digest))
-recorded limits links at entry answer digest status same_digest same_status (own, says) (real, (outcome, (holds, of_body)), may) =
+recorded limits links at entry answer digest status same_digest same_status (own, says) (real, (outcome, ((holds, received), of_body)), may) =
     let known : digest ≡ sha256 real.body.bytes = subst (λ (d : Option (List ℕ)). IfSome d (λ x. x ≡ sha256 real.body.bytes)) own of_body in
     (subst (λ s. has_status answer.outcome s ≡ true) same_status says, refl, (real, (outcome, holds), (may, sym known ∙ same_digest)))
 

@@ -14,7 +14,7 @@ use Rattle.http_fetcher.specs.Meanings.{MayAnswerWithin}
 use Rattle.mirror_index.specs.Entries.{Entry}
 use Rattle.mirror_index.specs.Indexes.{HasThis}
 use Rattle.earlier_pages.specs.Pages.{condition_by}
-use Rattle.part_keeper.specs.Parts.{holds_part}
+use Rattle.part_keeper.specs.Parts.{holds_part, holds_received}
 use Rattle.part_keeper.specs.declared.part.Part.{Part}
 use Rattle.pacing.specs.Retries.{Retried}
 use Rattle.requests.specs.Conditions.{Condition}
@@ -79,10 +79,11 @@ module _ (fetcher : Lasting) (at : AddressText) where
       × (answer.body.is_received ≡ false)
       × StandsForOne holds_part answer (λ real. MayAnswerWithin fetcher.limits fetcher.links at real.outcome real.body × (sha256 real.body.bytes ≡ entry.digest))
 
-  -- from one of these to the other the network is asked once, or again if that is worth it, and what is received last is the answer
+  -- from one of these to the other the network is asked once, or again if that is worth it, and what is received last is the answer, whose
+  -- body counts as received
   abbrev pub IsReceived : Fetching Connecting → Fetching Connecting → Answer Part → Type 0
   IsReceived old new answer =
-      IsLastOf asks_of (MayKeep holds_part fetcher.limits at) (is_worth_answer fetcher.retries) (ask.Page at) fetcher.retries.most old new answer
+      IsLastOf asks_of (MayKeep holds_received fetcher.limits at) (is_worth_answer fetcher.retries) (ask.Page at) fetcher.retries.most old new answer
 
   -- the page is requested with this condition, and this is received last; there is no condition from then on
   abbrev pub IsReceivedUnder : Condition → Fetching Connecting → Fetching Connecting → Answer Part → Type 0
@@ -90,7 +91,7 @@ module _ (fetcher : Lasting) (at : AddressText) where
       (left : Fetching Connecting) × IsReceived (conditioned (Some condition) old) left answer × (new ≡ conditioned None left)
 
   -- what was received for a request with a condition is the answer, unless the server said that the page is as it was: then that is what was
-  -- recorded, or, if its file had just changed, what is received without a condition
+  -- recorded, or, if no file has its bytes any more, what is received without a condition
   abbrev pub IsConcluded : Entry → Answer Part → Fetching Connecting → Fetching Connecting → Answer Part → Type 0
   IsConcluded entry received old new answer =
       ((is_unchanged received.outcome ≡ false) × (answer ≡ received) × (new ≡ old))

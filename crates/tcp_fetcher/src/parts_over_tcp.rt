@@ -147,8 +147,8 @@ where
         Ok(self.taken(answer))
     }
 
-    // The page of an earlier run again, if its file still has the bytes that it had.
-    fn replayed(
+    // The page of an earlier run again, if this file of it still has the bytes that it had.
+    fn read_again(
         &mut self,
         at: &Address,
         page: EarlierPage<'_, R::File>,
@@ -168,6 +168,25 @@ where
         Ok(None)
     }
 
+    // The page of an earlier run again, if one of the files that may be its still has the bytes that it had.
+    fn replayed(
+        &mut self,
+        at: &Address,
+        mut page: EarlierPage<'_, R::File>,
+    ) -> Result<Option<Answer<Part>>, AllocError>
+        ensures recorded { IfOk result (λ found. IfSome found (IsRecorded (lasting self.old) at.now page.entry.entry)) }
+        ensures fetcher { self.new ≡ self.old }
+    {
+        let other = page.take_other();
+        if let Some(answer) = self.read_again(at, page)? {
+            return Ok(Some(answer));
+        }
+        match other {
+            Some(other) => self.read_again(at, other),
+            None => Ok(None),
+        }
+    }
+
     // Requests a page over the network, with this condition alone.
     fn ask_under(&mut self, at: &Address, condition: Condition) -> Result<Answer<Part>, AllocError>
         ensures received { IfOk result (IsTold (lasting self.old) at.now (IsReceivedUnder (lasting self.old) at.now condition self.old.single self.new.single)) }
@@ -180,7 +199,7 @@ where
     }
 
     // What is answered after a request with a condition: if the server says that the page is as it was, it is read again, or requested
-    // without a condition if its file was changed since that was looked at.
+    // without a condition if no file has its bytes any more.
     fn concluded(
         &mut self,
         at: &Address,
@@ -216,7 +235,7 @@ where
         self.concluded(at, page, received)
     }
 
-    // Requests a page of which an earlier run has the body, only if its file was changed since that was looked at.
+    // Requests a page of which an earlier run has the body, only if no file has its bytes any more.
     fn ask_if_missing(
         &mut self,
         at: &Address,

@@ -3,11 +3,11 @@ use Rattle.std.proofs.Common.{◌∙◌, ap, subst}
 use Rattle.body_digests.specs.Digests.{HoldsDigested}
 use Rattle.html_links.specs.declared.rules.LinkRules.{LinkRules}
 use Rattle.mirror_index.specs.Entries.{Entry, KeptHead}
-use Rattle.part_keeper.specs.Parts.{holds_part}
+use Rattle.part_keeper.specs.Parts.{holds_received}
 use Rattle.response_reader.specs.Limits.{Limited}
 use Rattle.retries.specs.Keeping.{StandsForAnswer}
 use Rattle.tcp_fetcher.proofs.EarlierLaws.{recorded}
-use Rattle.tcp_fetcher.proofs.parts_over_tcp.PartsOverTcp.replayed.Goals as goal
+use Rattle.tcp_fetcher.proofs.parts_over_tcp.PartsOverTcp.read_again.Goals as goal
 
 pub returns-then-is_recorded-clause-recorded : goal.returns-then-is_recorded-clause-recorded
 returns-then-is_recorded-clause-recorded g c =
@@ -15,7 +15,7 @@ returns-then-is_recorded-clause-recorded g c =
     let inner = c.self.inside.inner in
     let digest = c.digest.ensures.digest ∙ ap (λ (e : Entry). e.digest) c.entry.ensures in
     let status = c.status-status.ensures.status ∙ ap (λ (h : KeptHead). h.status) c.head.ensures ∙ ap (λ (e : Entry). e.head.status) c.entry-2.ensures in
-    let within = subst (λ (limits : Limited). StandsForAnswer (HoldsDigested holds_part) limits c.link_rules-links.result c.args.at.now answer) c.limits-limits.ensures c.in_ok-answer.ensures.may in
-    let may = subst (λ (links : LinkRules). StandsForAnswer (HoldsDigested holds_part) inner.limits links c.args.at.now answer) c.link_rules-links.ensures within in
+    let within = subst (λ (limits : Limited). StandsForAnswer (HoldsDigested holds_received) limits c.link_rules-links.result c.args.at.now answer) c.limits-limits.ensures c.in_ok-answer.ensures.may in
+    let may = subst (λ (links : LinkRules). StandsForAnswer (HoldsDigested holds_received) inner.limits links c.args.at.now answer) c.link_rules-links.ensures within in
     rw (c.not_received.ensures, c.taken.ensures.answer, ← c.self.view_is)
     (recorded inner.limits inner.links c.args.at.now c.args.page.entry answer c.digest.result.now c.status-status.result digest status (c.is_recorded.ensures c.if-is_recorded.true) may)
