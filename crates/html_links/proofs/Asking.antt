@@ -56,6 +56,7 @@ kind_kept all form.Related = ap related (value_asked (codes "rel") all refl)
 kind_kept all form.Button = ap pressed (value_asked (codes "type") all refl)
 kind_kept all form.Set = refl
 kind_kept all form.Refresh = ap refreshed (value_asked (codes "http-equiv") all refl)
+kind_kept all form.Mention = refl
 
 link_kept : (all : List Attribute) (r : Row) → is_asked_attribute r.attribute ≡ true → link_by (kept_of all) r ≡ link_by all r
 link_kept all r h = rw (kind_kept all r.form, value_asked r.attribute all h) refl

@@ -11,13 +11,13 @@ use Rattle.html_links.specs.inner.Rows.{named}
 abbrev pub row_at : ℕ → Row
 row_at k = get_or link_table k (row 0 [] [] form.Link)
 
-pub row_named : (rows : List declared.Row) (k : ℕ) (d : declared.Row) → map named rows ≡ link_table → k < 38 → named (get_or rows k d) ≡ row_at k
+pub row_named : (rows : List declared.Row) (k : ℕ) (d : declared.Row) → map named rows ≡ link_table → k < 45 → named (get_or rows k d) ≡ row_at k
 unfolding link_table
 row_named rows k d is below =
-    let long : length rows ≡ 38 = sym (length-map rows named) ∙ ap (λ (rs : List Row). length rs) is in
+    let long : length rows ≡ 45 = sym (length-map rows named) ∙ ap (λ (rs : List Row). length rs) is in
     sym (get_or-map named rows k d (row 0 [] [] form.Link) (subst (λ n. k < n) (sym long) below)) ∙ ap (λ (rs : List Row). get_or rs k (row 0 [] [] form.Link)) is
 
 -- they are the table
-pub all_rows : (f : Row → Bool) → map (λ k. f (row_at k)) (range_with_len 0 38) ≡ map f link_table
+pub all_rows : (f : Row → Bool) → map (λ k. f (row_at k)) (range_with_len 0 45) ≡ map f link_table
 unfolding link_table
 all_rows f = refl

@@ -40,7 +40,7 @@ links = refl
 -- parts of a page are named by `src`, an `input` is one by its type alone
 embedded : map leads (codes "iframe" ∷ codes "frame" ∷ codes "embed" ∷ codes "audio" ∷ codes "track" ∷ codes "input" ∷ [])
     ≡ shown (codes "src") ∷ shown (codes "src") ∷ shown (codes "src") ∷ shown (codes "src") ∷ shown (codes "src")
-    ∷ ((codes "src", None) ∷ []) ∷ []
+    ∷ ((codes "src", None) ∷ (codes "formaction", Some kind.Mention) ∷ []) ∷ []
 unfolding link_table
 embedded = refl
 
@@ -58,8 +58,17 @@ painted : map leads (codes "body" ∷ codes "table" ∷ codes "tr" ∷ codes "td
 unfolding link_table
 painted = refl
 
+abbrev mentioned : List ℕ → List (List ℕ × Option LinkKind)
+mentioned attribute = (attribute, Some kind.Mention) ∷ []
+
+-- where forms are sent, and what is cited, is mentioned alone
+mentions : map leads (codes "form" ∷ codes "button" ∷ codes "blockquote" ∷ codes "q" ∷ codes "del" ∷ codes "ins" ∷ [])
+    ≡ mentioned (codes "action") ∷ mentioned (codes "formaction") ∷ mentioned (codes "cite") ∷ mentioned (codes "cite") ∷ mentioned (codes "cite") ∷ mentioned (codes "cite") ∷ []
+unfolding link_table
+mentions = refl
+
 -- other elements lead nowhere
-unlisted : map leads (codes "base" ∷ codes "svg" ∷ codes "abbr" ∷ codes "form" ∷ codes "picture" ∷ codes "q" ∷ [])
+unlisted : map leads (codes "base" ∷ codes "svg" ∷ codes "abbr" ∷ codes "label" ∷ codes "picture" ∷ codes "p" ∷ [])
     ≡ [] ∷ [] ∷ [] ∷ [] ∷ [] ∷ [] ∷ []
 unfolding link_table
 unlisted = refl
@@ -97,7 +106,7 @@ unfolding is_styling styling
 styles = refl
 
 -- a row's number is its place in the table
-numbered : map (λ r. r.number) link_table ≡ range_with_len 0 38
+numbered : map (λ r. r.number) link_table ≡ range_with_len 0 45
 unfolding link_table
 numbered = refl
 
@@ -124,11 +133,12 @@ abbrev numbers : List ℕ → List ℕ → List ℕ
 numbers followed ignored = map (λ r. r.number) (filter (takes_row followed ignored) link_table)
 
 lists_of_names : numbers (codes "IMG/src,,area") [] ∷ numbers (codes "img") (codes "img/SRCSET,a") ∷ numbers (codes "picture") [] ∷ numbers (codes ",") (codes "t,h,a/href/") ∷ []
-    ≡ (2 ∷ 9 ∷ []) ∷ (9 ∷ 11 ∷ 12 ∷ []) ∷ [] ∷ range_with_len 0 38 ∷ []
+    ≡ (2 ∷ 13 ∷ []) ∷ (13 ∷ 15 ∷ 16 ∷ []) ∷ [] ∷ range_with_len 0 45 ∷ []
 unfolding link_table
 lists_of_names = refl
 
-unknown_names : map has_unknown (codes "img/data-src" ∷ codes "a,/href" ∷ codes "picture,img/SRC" ∷ codes "style/x" ∷ [] ∷ []) ≡ true ∷ true ∷ false ∷ true ∷ false ∷ []
+unknown_names : map has_unknown (codes "img/data-src" ∷ codes "a,/href" ∷ codes "picture,img/SRC" ∷ codes "style/x" ∷ codes "form/action" ∷ [] ∷ [])
+    ≡ true ∷ true ∷ false ∷ true ∷ true ∷ false ∷ []
 unfolding link_table
 unknown_names = refl
 

@@ -7,7 +7,7 @@ use Rattle.html_links.specs.Pieces.Source.{FromTag, FromSheet}
 use Rattle.html_links.specs.Contexts.{Context}
 use Rattle.html_links.specs.Markup.{start_tags}
 use Rattle.html_links.specs.declared.asked.AskedName.{AskedName}
-use Rattle.html_links.specs.declared.asked.AskedName.TheVariants.{Href, XlinkHref, Src, Background, LongDesc, LowSrc, Poster, Data, SrcSet, ImageSrcSet, Rel, OfType, HttpEquiv, Style, Name, Content, Fill, Stroke, Filter, Mask, ClipPath, Cursor, MarkerStart, MarkerMid, MarkerEnd}
+use Rattle.html_links.specs.declared.asked.AskedName.TheVariants.{Href, XlinkHref, Src, Background, LongDesc, LowSrc, Poster, Data, SrcSet, ImageSrcSet, Rel, OfType, HttpEquiv, Style, Name, Content, Fill, Stroke, Filter, Mask, ClipPath, Cursor, MarkerStart, MarkerMid, MarkerEnd, Action, FormAction, Cite}
 use Rattle.html_links.specs.declared.asked.Wanted.{Wanted}
 use Rattle.html_links.specs.declared.asked.Wanted.TheVariants as wanted
 use Rattle.html_links.specs.Links.{link_table, styling}
@@ -43,12 +43,15 @@ asked_name Cursor = codes "cursor"
 asked_name MarkerStart = codes "marker-start"
 asked_name MarkerMid = codes "marker-mid"
 asked_name MarkerEnd = codes "marker-end"
+asked_name Action = codes "action"
+asked_name FormAction = codes "formaction"
+asked_name Cite = codes "cite"
 
 -- these attributes
 abbrev pub asked_names : List AskedName
 asked_names =
     Href ∷ XlinkHref ∷ Src ∷ Background ∷ LongDesc ∷ LowSrc ∷ Poster ∷ Data ∷ SrcSet ∷ ImageSrcSet ∷ Rel ∷ OfType ∷ HttpEquiv ∷ Style ∷ Name ∷ Content
-    ∷ Fill ∷ Stroke ∷ Filter ∷ Mask ∷ ClipPath ∷ Cursor ∷ MarkerStart ∷ MarkerMid ∷ MarkerEnd ∷ []
+    ∷ Fill ∷ Stroke ∷ Filter ∷ Mask ∷ ClipPath ∷ Cursor ∷ MarkerStart ∷ MarkerMid ∷ MarkerEnd ∷ Action ∷ FormAction ∷ Cite ∷ []
 
 -- whether a rule names attributes of that name
 abbrev pub is_asked_attribute : List ℕ → Bool

@@ -1,22 +1,24 @@
 -- The value that comes next, if it has links by the part of its tag that came (HTML Standard, sections 13.1.2.3 and 13.2.5.35).
-use Rattle.std.specs.Prelude.{◌≡◌, ℕ, ◌≤◌, Bool, true, false, ◌&&◌, List, [], ◌∷◌, ◌++◌, Option, Some, None, length, if◌then◌else◌, codes}
+use Rattle.std.specs.Prelude.{◌≡◌, ℕ, ◌≤◌, Bool, true, false, ◌&&◌, List, [], ◌∷◌, ◌++◌, Option, Some, None, length, get_or, if◌then◌else◌, codes}
 use Rattle.std.specs.Str.{bytes_eq}
 use Rattle.html_links.specs.Pieces.{Attribute, from, is_not_white}
 use Rattle.html_links.specs.Markup.{Attributes, Value, attributes, value_at}
 use Rattle.html_links.specs.Values.{written}
-use Rattle.html_links.specs.Links.{Row, link_table, kind_in}
+use Rattle.html_links.specs.Links.{Row, row, link_table, kind_in}
 use Rattle.html_links.specs.Asked.{asked_name, asked_attributes, is_styling}
 use Rattle.html_links.specs.Scanning.{ScanProgress}
 use Rattle.html_links.specs.declared.asked.AskedName.{AskedName}
 use Rattle.html_links.specs.declared.asked.Wanted.{Wanted}
 use Rattle.html_links.specs.declared.asked.Wanted.TheVariants as wanted
 use Rattle.html_links.specs.declared.links.LinkKind.{LinkKind}
+use Rattle.html_links.specs.declared.links.LinkPlace.{LinkPlace}
+use Rattle.html_links.specs.declared.links.LinkPlace.TheVariants as place
 use Rattle.html_links.specs.declared.table.Form.{Form}
 use Rattle.html_links.specs.declared.table.Form.TheVariants as form
 use Rattle.html_links.specs.declared.lexer.Lexer.{Lexer}
 use Rattle.html_links.specs.declared.lexer.Mode.TheVariants.{BeforeValue}
 use Rattle.html_links.specs.declared.awaiting.ValueForm.{ValueForm}
-use Rattle.html_links.specs.declared.awaiting.ValueForm.TheVariants.{Address, Base, Set, Refresh, Sheet}
+use Rattle.html_links.specs.declared.awaiting.ValueForm.TheVariants.{Address, Base, Set, Refresh, Sheet, Mention}
 use Rattle.html_links.specs.declared.lexer.awaiting.TheConstants.{MOST_BEFORE}
 
 -- how a value of that form of the link table is read
@@ -27,6 +29,12 @@ read_as form.Related = Address
 read_as form.Button = Address
 read_as form.Set = Set
 read_as form.Refresh = Refresh
+read_as form.Mention = Mention
+
+-- how links are found in what is written there; a number that no row has counts for nothing
+abbrev pub form_at : LinkPlace → ValueForm
+form_at (place.Row n) = read_as (get_or link_table n (row 0 [] [] form.Link)).form
+form_at place.Sheet = Sheet
 
 -- the first of these rows that is of that element and that attribute
 abbrev pub row_of : List ℕ → List ℕ → List Row → Option Row

@@ -4,7 +4,7 @@ use Rattle.std.specs.List.{slice_split, list_all, list_any}
 use Rattle.std.specs.Str.{bytes_eq}
 use Rattle.std.specs.Char.{is_ascii_alphabetic, is_ascii_alphanumeric}
 use Rattle.html_links.specs.Pieces.{lower, is, begins, until, from}
-use Rattle.html_links.specs.Links.{Row, Link, link_table}
+use Rattle.html_links.specs.Links.{Row, Link, is_followed, link_table}
 use Rattle.html_links.specs.declared.links.LinkPlace.{LinkPlace}
 use Rattle.html_links.specs.declared.links.LinkPlace.TheVariants as place
 use Rattle.html_links.specs.declared.rules.RowSet.{RowSet}
@@ -56,9 +56,9 @@ abbrev pub has_attribute : List ℕ → List ℕ → Bool
 has_attribute [] attribute = true
 has_attribute (slash ∷ name) attribute = is_same name attribute
 
--- whether a name of a list, `element` or `element/attribute`, names a row; 47 is `/`
+-- whether a name of a list, `element` or `element/attribute`, names a row whose links are followed; 47 is `/`
 abbrev pub names : List ℕ → Row → Bool
-names name r = is_same (until (is 47) name) r.element && has_attribute (from (is 47) name) r.attribute
+names name r = is_followed r.form && is_same (until (is 47) name) r.element && has_attribute (from (is 47) name) r.attribute
 
 -- the names of a list; 44 is the comma
 abbrev pub names_in : List ℕ → List (List ℕ)
@@ -76,7 +76,7 @@ lists_sheets list = list_any (λ name. is_same name (codes "style")) (names_in l
 abbrev pub is_empty : List ℕ → Bool
 is_empty list = list_all (λ b. b == 44) list
 
--- whether a name has an attribute for which the link table has no row
+-- whether a name has an attribute for which the link table has no row whose links are followed
 abbrev pub is_unknown : List ℕ → Bool
 is_unknown name = not (length (from (is 47) name) == 0) && not (list_any (names name) link_table)
 

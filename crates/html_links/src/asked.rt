@@ -45,6 +45,9 @@ pub(crate) enum AskedName {
     MarkerStart,
     MarkerMid,
     MarkerEnd,
+    Action,
+    FormAction,
+    Cite,
 }
 
 impl AskedName {
@@ -101,6 +104,9 @@ impl AskedName {
             AskedName::HttpEquiv => false,
             AskedName::Name => false,
             AskedName::Content => false,
+            AskedName::Action => false,
+            AskedName::FormAction => false,
+            AskedName::Cite => false,
         }
     }
 
@@ -134,18 +140,28 @@ impl AskedName {
             AskedName::MarkerStart => b"marker-start",
             AskedName::MarkerMid => b"marker-mid",
             AskedName::MarkerEnd => b"marker-end",
+            AskedName::Action => b"action",
+            AskedName::FormAction => b"formaction",
+            AskedName::Cite => b"cite",
         }
     }
 }
 
 // The attributes by the first letters of their names, so that most names are compared with few of them.
+static A: [AskedName; 1] = [AskedName::Action];
+
 static B: [AskedName; 1] = [AskedName::Background];
 
-static C: [AskedName; 3] = [AskedName::Content, AskedName::ClipPath, AskedName::Cursor];
+static C: [AskedName; 4] = [
+    AskedName::Content,
+    AskedName::ClipPath,
+    AskedName::Cursor,
+    AskedName::Cite,
+];
 
 static D: [AskedName; 1] = [AskedName::Data];
 
-static F: [AskedName; 2] = [AskedName::Fill, AskedName::Filter];
+static F: [AskedName; 3] = [AskedName::Fill, AskedName::Filter, AskedName::FormAction];
 
 static H: [AskedName; 2] = [AskedName::Href, AskedName::HttpEquiv];
 
@@ -182,6 +198,7 @@ fn names_with(first: u8) -> &'static [AskedName]
     ensures { result.now ≡ names_with first asked_names }
 {
     match first {
+        b'a' => &A,
         b'b' => &B,
         b'c' => &C,
         b'd' => &D,

@@ -4,11 +4,12 @@ ghost use Rattle.html_links.specs.Asked.{asked_name};
 ghost use Rattle.html_links.specs.Links.{link_table, kind_in};
 ghost use Rattle.html_links.specs.Pieces.{Attribute as NameAndValue};
 ghost use Rattle.html_links.specs.Values.{value_of};
-ghost use Rattle.html_links.specs.Awaiting.{is_base, read_as, row_of};
+ghost use Rattle.html_links.specs.Awaiting.{form_at, is_base, read_as, row_of};
 
 use crate::asked::AskedName;
 use crate::bytes::is_name;
-use crate::table::{Form, rows_for};
+use crate::links::LinkPlace;
+use crate::table::{Form, rows_for, table};
 use crate::tag::{Attribute, written};
 
 /// How links are found in a value.
@@ -24,6 +25,8 @@ pub enum ValueForm {
     Refresh,
     /// It is read like a style sheet.
     Sheet,
+    /// It is a URL that isn't followed.
+    Mention,
 }
 
 impl Form {
@@ -37,6 +40,22 @@ impl Form {
             Form::Button => ValueForm::Address,
             Form::Set => ValueForm::Set,
             Form::Refresh => ValueForm::Refresh,
+            Form::Mention => ValueForm::Mention,
+        }
+    }
+}
+
+impl LinkPlace {
+    /// How links are found in what is written there.
+    pub fn form(self) -> ValueForm
+        ensures { result ≡ form_at self }
+    {
+        match self {
+            LinkPlace::Row(number) => match table().get(number as usize) {
+                Some(row) => row.form().read_as(),
+                None => ValueForm::Address,
+            },
+            LinkPlace::Sheet => ValueForm::Sheet,
         }
     }
 }
@@ -82,6 +101,7 @@ pub(crate) fn is_decided(before: &[Attribute], form: Form) -> bool
         Form::Link => true,
         Form::Shown => true,
         Form::Set => true,
+        Form::Mention => true,
         Form::Related => has(before, AskedName::Rel),
         Form::Button => has(before, AskedName::OfType),
         Form::Refresh => has(before, AskedName::HttpEquiv),

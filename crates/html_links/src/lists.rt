@@ -19,12 +19,14 @@ fn has_attribute(rest: &[u8], attribute: &[u8]) -> bool
     }
 }
 
-/// Whether a name of a list, `element` or `element/attribute`, names a row.
+/// Whether a name of a list, `element` or `element/attribute`, names a row whose links are followed.
 fn names(name: &[u8], row: &Row) -> bool
     ensures { result ≡ names name.now (named row.now) }
 {
     let (element, rest) = split_at_byte(b'/', name);
-    is_word(element, row.element()) && has_attribute(rest, row.attribute().name())
+    row.is_followed()
+        && is_word(element, row.element())
+        && has_attribute(rest, row.attribute().name())
 }
 
 /// Whether a list names a row.
@@ -66,7 +68,7 @@ fn names_any(name: &[u8], rows: &[Row]) -> bool
     false
 }
 
-/// Whether a name has an attribute for which the table has no row.
+/// Whether a name has an attribute for which the table has no row whose links are followed.
 fn is_unknown(name: &[u8]) -> bool
     ensures { result ≡ is_unknown name.now }
 {

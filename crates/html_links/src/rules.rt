@@ -66,7 +66,8 @@ impl RowSet {
 
     /// What `followed` names, or everything if it has no name, without what `ignored` names. Names are separated by commas; case doesn't count.
     /// `element` names the rows of that element, none if the table hasn't it, `element/attribute` one row, and `style` the style sheets.
-    /// Nothing, if a name has an attribute for which the table has no row.
+    /// Nothing, if a name has an attribute for which the table has no row whose links
+    /// are followed.
     #[tactic(auto, unfolding(crate::specs::Rules::taken_by))]
     pub fn from_lists(followed: &str, ignored: &str) -> Option<RowSet>
         ensures { MatchOption result ((has_unknown followed.now || has_unknown ignored.now) ≡ true)

@@ -1,8 +1,8 @@
 //! The link table: which attributes of which elements lead elsewhere, and where to (HTML Standard, section 4; SVG 2, sections 5.6,
-//! 8.9 and 16.2).
+//! 8.9 and 16.2), or name a URL that isn't followed.
 ghost use Rattle.std.specs.Prelude.{◌≡◌, ℕ, List, map};
 ghost use Rattle.html_links.specs.Asked.{asked_name};
-ghost use Rattle.html_links.specs.Links.{link_table, row_links, table_links};
+ghost use Rattle.html_links.specs.Links.{is_followed, link_table, row_links, table_links};
 ghost use Rattle.html_links.specs.Pieces.{Attribute as NameAndValue};
 ghost use Rattle.html_links.specs.Awaiting.{row_of};
 ghost use Rattle.html_links.specs.inner.Rows.{named, rows_with};
@@ -28,6 +28,25 @@ pub(crate) enum Form {
     Set,
     /// Another document, by a refresh, if the `http-equiv` of the same tag says so.
     Refresh,
+    /// Nothing that is followed: where a form is sent, or what is cited.
+    Mention,
+}
+
+impl Form {
+    /// Whether links by rows of the form are followed.
+    fn is_followed(self) -> bool
+        ensures { result ≡ is_followed self }
+    {
+        match self {
+            Form::Link => true,
+            Form::Shown => true,
+            Form::Related => true,
+            Form::Button => true,
+            Form::Set => true,
+            Form::Refresh => true,
+            Form::Mention => false,
+        }
+    }
 }
 
 /// A row of the table: its number, which is its place in the table, an element, an attribute, and what its value leads to.
@@ -35,7 +54,7 @@ pub(crate) enum Form {
 pub(crate) struct Row(u8, &'static [u8], AskedName, Form);
 
 /// How many rows the table has.
-pub(crate) const ROWS: usize = 38;
+pub(crate) const ROWS: usize = 45;
 
 // The rows by the first letters of their elements, so that most tags are compared with few of them.
 static TABLE: [Row; ROWS] = [
@@ -44,39 +63,46 @@ static TABLE: [Row; ROWS] = [
     Row(2, b"area", AskedName::Href, Form::Link),
     Row(3, b"audio", AskedName::Src, Form::Shown),
     Row(4, b"body", AskedName::Background, Form::Shown),
-    Row(5, b"embed", AskedName::Src, Form::Shown),
-    Row(6, b"frame", AskedName::Src, Form::Shown),
-    Row(7, b"feimage", AskedName::Href, Form::Shown),
-    Row(8, b"feimage", AskedName::XlinkHref, Form::Shown),
-    Row(9, b"img", AskedName::Src, Form::Shown),
-    Row(10, b"img", AskedName::SrcSet, Form::Set),
-    Row(11, b"img", AskedName::LongDesc, Form::Link),
-    Row(12, b"img", AskedName::LowSrc, Form::Shown),
-    Row(13, b"iframe", AskedName::Src, Form::Shown),
-    Row(14, b"input", AskedName::Src, Form::Button),
-    Row(15, b"image", AskedName::Href, Form::Shown),
-    Row(16, b"image", AskedName::XlinkHref, Form::Shown),
-    Row(17, b"link", AskedName::Href, Form::Related),
-    Row(18, b"link", AskedName::ImageSrcSet, Form::Set),
-    Row(19, b"meta", AskedName::Content, Form::Refresh),
-    Row(20, b"object", AskedName::Data, Form::Shown),
-    Row(21, b"script", AskedName::Src, Form::Shown),
-    Row(22, b"script", AskedName::Href, Form::Shown),
-    Row(23, b"script", AskedName::XlinkHref, Form::Shown),
-    Row(24, b"source", AskedName::Src, Form::Shown),
-    Row(25, b"source", AskedName::SrcSet, Form::Set),
-    Row(26, b"track", AskedName::Src, Form::Shown),
-    Row(27, b"table", AskedName::Background, Form::Shown),
-    Row(28, b"thead", AskedName::Background, Form::Shown),
-    Row(29, b"tbody", AskedName::Background, Form::Shown),
-    Row(30, b"tfoot", AskedName::Background, Form::Shown),
-    Row(31, b"tr", AskedName::Background, Form::Shown),
-    Row(32, b"td", AskedName::Background, Form::Shown),
-    Row(33, b"th", AskedName::Background, Form::Shown),
-    Row(34, b"use", AskedName::Href, Form::Shown),
-    Row(35, b"use", AskedName::XlinkHref, Form::Shown),
-    Row(36, b"video", AskedName::Src, Form::Shown),
-    Row(37, b"video", AskedName::Poster, Form::Shown),
+    Row(5, b"button", AskedName::FormAction, Form::Mention),
+    Row(6, b"blockquote", AskedName::Cite, Form::Mention),
+    Row(7, b"del", AskedName::Cite, Form::Mention),
+    Row(8, b"embed", AskedName::Src, Form::Shown),
+    Row(9, b"form", AskedName::Action, Form::Mention),
+    Row(10, b"frame", AskedName::Src, Form::Shown),
+    Row(11, b"feimage", AskedName::Href, Form::Shown),
+    Row(12, b"feimage", AskedName::XlinkHref, Form::Shown),
+    Row(13, b"img", AskedName::Src, Form::Shown),
+    Row(14, b"img", AskedName::SrcSet, Form::Set),
+    Row(15, b"img", AskedName::LongDesc, Form::Link),
+    Row(16, b"img", AskedName::LowSrc, Form::Shown),
+    Row(17, b"iframe", AskedName::Src, Form::Shown),
+    Row(18, b"input", AskedName::Src, Form::Button),
+    Row(19, b"input", AskedName::FormAction, Form::Mention),
+    Row(20, b"ins", AskedName::Cite, Form::Mention),
+    Row(21, b"image", AskedName::Href, Form::Shown),
+    Row(22, b"image", AskedName::XlinkHref, Form::Shown),
+    Row(23, b"link", AskedName::Href, Form::Related),
+    Row(24, b"link", AskedName::ImageSrcSet, Form::Set),
+    Row(25, b"meta", AskedName::Content, Form::Refresh),
+    Row(26, b"object", AskedName::Data, Form::Shown),
+    Row(27, b"q", AskedName::Cite, Form::Mention),
+    Row(28, b"script", AskedName::Src, Form::Shown),
+    Row(29, b"script", AskedName::Href, Form::Shown),
+    Row(30, b"script", AskedName::XlinkHref, Form::Shown),
+    Row(31, b"source", AskedName::Src, Form::Shown),
+    Row(32, b"source", AskedName::SrcSet, Form::Set),
+    Row(33, b"track", AskedName::Src, Form::Shown),
+    Row(34, b"table", AskedName::Background, Form::Shown),
+    Row(35, b"thead", AskedName::Background, Form::Shown),
+    Row(36, b"tbody", AskedName::Background, Form::Shown),
+    Row(37, b"tfoot", AskedName::Background, Form::Shown),
+    Row(38, b"tr", AskedName::Background, Form::Shown),
+    Row(39, b"td", AskedName::Background, Form::Shown),
+    Row(40, b"th", AskedName::Background, Form::Shown),
+    Row(41, b"use", AskedName::Href, Form::Shown),
+    Row(42, b"use", AskedName::XlinkHref, Form::Shown),
+    Row(43, b"video", AskedName::Src, Form::Shown),
+    Row(44, b"video", AskedName::Poster, Form::Shown),
 ];
 
 /// The rows.
@@ -94,17 +120,19 @@ fn rows_with(first: u8) -> &'static [Row]
 {
     match first {
         b'a' => &TABLE[0..4],
-        b'b' => &TABLE[4..5],
-        b'e' => &TABLE[5..6],
-        b'f' => &TABLE[6..9],
-        b'i' => &TABLE[9..17],
-        b'l' => &TABLE[17..19],
-        b'm' => &TABLE[19..20],
-        b'o' => &TABLE[20..21],
-        b's' => &TABLE[21..26],
-        b't' => &TABLE[26..34],
-        b'u' => &TABLE[34..36],
-        b'v' => &TABLE[36..38],
+        b'b' => &TABLE[4..7],
+        b'd' => &TABLE[7..8],
+        b'e' => &TABLE[8..9],
+        b'f' => &TABLE[9..13],
+        b'i' => &TABLE[13..23],
+        b'l' => &TABLE[23..25],
+        b'm' => &TABLE[25..26],
+        b'o' => &TABLE[26..27],
+        b'q' => &TABLE[27..28],
+        b's' => &TABLE[28..33],
+        b't' => &TABLE[33..41],
+        b'u' => &TABLE[41..43],
+        b'v' => &TABLE[43..45],
         _ => &[],
     }
 }
@@ -152,6 +180,13 @@ impl Row {
         ensures { result ≡ (named self.now).form }
     {
         self.3
+    }
+
+    /// Whether links by the row are followed.
+    pub(crate) fn is_followed(&self) -> bool
+        ensures { result ≡ is_followed (named self.now).form }
+    {
+        self.3.is_followed()
     }
 
     /// Where a value is written that the row names.

@@ -1,4 +1,3 @@
 pub mod Cutting
 pub mod Placing
 pub mod Closing
-pub mod Differing

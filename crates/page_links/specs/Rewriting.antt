@@ -8,13 +8,11 @@ use Rattle.html_links.specs.Pieces.{Attribute, Source}
 use Rattle.html_links.specs.Escaping.{escaped}
 use Rattle.html_links.specs.Values.{value_text_of, written}
 use Rattle.html_links.specs.Links.{Link, Links, links_of_body}
-use Rattle.html_links.specs.Awaiting.{form_in}
+use Rattle.html_links.specs.Awaiting.{form_at, form_in}
 use Rattle.html_links.specs.Scanning.{ScanProgress, StandsFor}
 use Rattle.html_links.specs.declared.context.Syntax.{Syntax}
 use Rattle.html_links.specs.declared.awaiting.ValueForm.{ValueForm}
-use Rattle.html_links.specs.declared.awaiting.ValueForm.TheVariants.{Address, Base, Set, Refresh, Sheet}
-use Rattle.html_links.specs.declared.links.LinkKind.{LinkKind}
-use Rattle.html_links.specs.declared.links.LinkKind.TheVariants as kind
+use Rattle.html_links.specs.declared.awaiting.ValueForm.TheVariants.{Address, Base, Set, Refresh, Sheet, Mention}
 use Rattle.page_links.specs.Unclear.{is_unclear}
 use Rattle.page_links.specs.Places.{IsValue, CanStand, IsPlace, IsSheetText, IsSheetPlace}
 
@@ -29,31 +27,18 @@ pub record InOneForm (P : Type 0) : Type 0 where
   pub changes : P
   pub form : ValueForm
 
--- whether a link of that kind may be written so
-abbrev pub may_be_in : LinkKind → ValueForm → Bool
-may_be_in kind.Link Address = true
-may_be_in kind.Link Base = false
-may_be_in kind.Link Set = false
-may_be_in kind.Link Refresh = true
-may_be_in kind.Link Sheet = false
-may_be_in kind.Inline Address = true
-may_be_in kind.Inline Base = false
-may_be_in kind.Inline Set = true
-may_be_in kind.Inline Refresh = false
-may_be_in kind.Inline Sheet = true
-
--- A link is another one with its text changed, by a form in which links of its kind may be written. What is known of each change, by form,
--- old text and new text, is known of it.
+-- A link is another one with its text changed by the form of its place. What is known of each change, by form, old text and new text, is
+-- known of it.
 pub record IsLinkChanged (changes : Changes) (known : ValueForm → List ℕ → List ℕ → Type 0) (old new : Link) : Type 0 where
   pub kind : new.kind ≡ old.kind
-  pub form : ValueForm
-  pub written : may_be_in old.kind form ≡ true
-  pub text : new.text ≡ changed (changes form) old.text
-  pub holds : known form old.text new.text
+  pub place : new.place ≡ old.place
+  pub text : new.text ≡ changed (changes (form_at old.place)) old.text
+  pub holds : known (form_at old.place) old.text new.text
 
 -- A link is another one that stays, since its text may not be what is written.
 pub record IsLinkLeft (old new : Link) : Type 0 where
   pub kind : new.kind ≡ old.kind
+  pub place : new.place ≡ old.place
   pub text : new.text ≡ old.text
   pub unclear : is_unclear old.text ≡ true
 
@@ -86,6 +71,7 @@ text_anew changes Base text = changed (changes Base) text
 text_anew changes Set text = sets.rewritten (changes Set) text
 text_anew changes Refresh text = refresh.rewritten (changes Refresh) text
 text_anew changes Sheet text = sheets.rewritten (changes Sheet) text
+text_anew changes Mention text = changed (changes Mention) text
 
 -- a value with its links changed, as it is written
 abbrev pub value_anew : Changes → ValueForm → List ℕ → List ℕ

@@ -3,11 +3,11 @@ ghost use Rattle.std.specs.Prelude.{◌≡◌, ◌⊎◌, true, false, IfOk, opt
 ghost use Rattle.css_links.specs.Rewriting.{changed};
 ghost use Rattle.html_links.specs.Scanning.{scanned};
 ghost use Rattle.html_links.specs.declared.awaiting.ValueForm.TheVariants.{Base};
-ghost use Rattle.page_links.specs.Rewriting.{may_be_in, IsLinkChanged, IsLinkLeft, AreLinksChanged, AreChanged};
+ghost use Rattle.page_links.specs.Rewriting.{IsLinkChanged, IsLinkLeft, AreLinksChanged, AreChanged};
 
 use crate::page_change::PageChange;
 use crate::unclear::is_unclear;
-use html_links::{Found, LinkKind, Scan, ValueForm};
+use html_links::{Found, Scan, ValueForm};
 use std::alloc::AllocError;
 
 /// Whether a text is the other one, changed in that form.
@@ -27,61 +27,29 @@ pub(crate) fn is_changed<P: PageChange>(
     }
 }
 
-/// Whether a link is the other one, changed in that form.
-fn is_link_changed_in<P: PageChange>(
-    changes: &P,
-    form: ValueForm,
-    old: &Found,
-    new: &Found,
-) -> Result<bool, AllocError>
-    requires kind { new.now.kind ≡ old.now.kind }
-    requires written { may_be_in old.now.kind form ≡ true }
-    ensures changed { IfOk result (λ is. is ≡ true → IsLinkChanged (P.becomes changes.now) (P.known changes.now) old.now new.now) }
-    ensures differs { IfOk result (λ is. is ≡ false → new.now.text ≡ changed (P.becomes changes.now form) old.now.text → ⊥) }
-{
-    is_changed(changes, form, old.text.as_str(), new.text.as_str())
-}
-
-/// Whether a link to another document is the other one, changed.
-fn is_outer_changed<P: PageChange>(
-    changes: &P,
-    old: &Found,
-    new: &Found,
-) -> Result<bool, AllocError>
-    requires kind { new.now.kind ≡ old.now.kind }
-    requires link { old.now.kind ≡ LinkKind.Link }
-    ensures changed { IfOk result (λ is. is ≡ true → IsLinkChanged (P.becomes changes.now) (P.known changes.now) old.now new.now) }
-    ensures differs { IfOk result (λ is. is ≡ false → IsLinkChanged (P.becomes changes.now) (P.known changes.now) old.now new.now → ⊥) }
-{
-    if is_link_changed_in(changes, ValueForm::Address, old, new)? {
-        return Ok(true);
-    }
-    is_link_changed_in(changes, ValueForm::Refresh, old, new)
-}
-
-/// Whether a part of the page is the other one, changed.
-fn is_part_changed<P: PageChange>(changes: &P, old: &Found, new: &Found) -> Result<bool, AllocError>
-    requires kind { new.now.kind ≡ old.now.kind }
-    requires part { old.now.kind ≡ LinkKind.Inline }
-    ensures changed { IfOk result (λ is. is ≡ true → IsLinkChanged (P.becomes changes.now) (P.known changes.now) old.now new.now) }
-    ensures differs { IfOk result (λ is. is ≡ false → IsLinkChanged (P.becomes changes.now) (P.known changes.now) old.now new.now → ⊥) }
-{
-    if is_link_changed_in(changes, ValueForm::Address, old, new)? {
-        return Ok(true);
-    }
-    if is_link_changed_in(changes, ValueForm::Sheet, old, new)? {
-        return Ok(true);
-    }
-    is_link_changed_in(changes, ValueForm::Set, old, new)
-}
-
 /// Whether a link is the other one, of which the text isn't clear.
 fn is_link_left(old: &Found, new: &Found) -> bool
-    requires { new.now.kind ≡ old.now.kind }
+    requires kind { new.now.kind ≡ old.now.kind }
+    requires place { new.now.place ≡ old.now.place }
     ensures left { result ≡ true → IsLinkLeft old.now new.now }
     ensures differs { result ≡ false → IsLinkLeft old.now new.now → ⊥ }
 {
     new.text.as_str() == old.text.as_str() && is_unclear(old.text.as_bytes())
+}
+
+/// Whether a link is the other one, changed.
+fn is_link_anew<P: PageChange>(changes: &P, old: &Found, new: &Found) -> Result<bool, AllocError>
+    requires kind { new.now.kind ≡ old.now.kind }
+    requires place { new.now.place ≡ old.now.place }
+    ensures changed { IfOk result (λ is. is ≡ true → IsLinkChanged (P.becomes changes.now) (P.known changes.now) old.now new.now) }
+    ensures differs { IfOk result (λ is. is ≡ false → IsLinkChanged (P.becomes changes.now) (P.known changes.now) old.now new.now → ⊥) }
+{
+    is_changed(
+        changes,
+        old.place.form(),
+        old.text.as_str(),
+        new.text.as_str(),
+    )
 }
 
 /// Whether a link is the other one, changed, or left for its text.
@@ -89,16 +57,13 @@ fn is_link_changed<P: PageChange>(changes: &P, old: &Found, new: &Found) -> Resu
     ensures changed { IfOk result (λ is. is ≡ true → IsLinkChanged (P.becomes changes.now) (P.known changes.now) old.now new.now ⊎ IsLinkLeft old.now new.now) }
     ensures differs { IfOk result (λ is. is ≡ false → IsLinkChanged (P.becomes changes.now) (P.known changes.now) old.now new.now ⊎ IsLinkLeft old.now new.now → ⊥) }
 {
-    if old.kind != new.kind {
+    if old.kind != new.kind || old.place != new.place {
         return Ok(false);
     }
-    if is_link_left(old, new) {
+    if is_link_anew(changes, old, new)? {
         return Ok(true);
     }
-    match old.kind {
-        LinkKind::Link => is_outer_changed(changes, old, new),
-        LinkKind::Inline => is_part_changed(changes, old, new),
-    }
+    Ok(is_link_left(old, new))
 }
 
 /// Whether these links are the other ones, changed.
@@ -123,30 +88,6 @@ fn are_links_changed<P: PageChange>(
         others = more;
     }
     Ok(others.is_empty())
-}
-
-/// Whether a link that is the value of an attribute stays, or would stay if it were.
-fn does_link_stay<P: PageChange>(changes: &P, link: &Found) -> Result<bool, AllocError>
-    ensures { IfOk result (λ does. does ≡ true → IsLinkChanged (P.becomes changes.now) (P.known changes.now) link.now link.now) }
-{
-    match link.kind {
-        LinkKind::Link => is_link_changed_in(changes, ValueForm::Address, link, link),
-        LinkKind::Inline => is_link_changed_in(changes, ValueForm::Address, link, link),
-    }
-}
-
-/// Whether all of these links stay so.
-fn do_links_stay<P: PageChange>(changes: &P, links: &[Found]) -> Result<bool, AllocError>
-    ensures { IfOk result (λ all. all ≡ true → AreLinksChanged (P.becomes changes.now) (P.known changes.now) links.now links.now) }
-{
-    let mut left = links;
-    while let [link, behind @ ..] = left {
-        if !does_link_stay(changes, link)? {
-            return Ok(false);
-        }
-        left = behind;
-    }
-    Ok(true)
 }
 
 /// Whether a base is the other one, changed.
@@ -180,15 +121,4 @@ pub(crate) fn are_changed<P: PageChange>(
         return Ok(false);
     }
     are_links_changed(changes, &old.links, &new.links)
-}
-
-/// Whether a page stays as it is: its links and its base become what they are, each link as the value of an attribute. `found` is what was
-/// found in the page. The error is out of memory.
-pub fn stays<P: PageChange>(changes: &P, found: &Scan) -> Result<bool, AllocError>
-    ensures { IfOk result (λ stays. stays ≡ true → AreChanged (P.becomes changes.now) (P.known changes.now) (scanned found.now) (scanned found.now)) }
-{
-    if !is_base_changed(changes, &found.base, &found.base)? {
-        return Ok(false);
-    }
-    do_links_stay(changes, &found.links)
 }

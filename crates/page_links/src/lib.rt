@@ -20,7 +20,6 @@ mod unclear;
 mod value;
 mod writer;
 
-pub use crate::comparing::stays;
 pub use crate::page_change::PageChange;
-pub use crate::rewriter::{rewrite, scan};
+pub use crate::rewriter::{rewrite, scan, stays};
 pub use crate::sheet_rewriter::rewrite_sheet;

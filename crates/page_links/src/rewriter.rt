@@ -1,5 +1,5 @@
 //! Pages with other links.
-ghost use Rattle.std.specs.Prelude.{◌≡◌, IfOk, MatchOption};
+ghost use Rattle.std.specs.Prelude.{◌≡◌, true, IfOk, MatchOption};
 ghost use Rattle.html_links.specs.Links.{links_of_body};
 ghost use Rattle.html_links.specs.Scanning.{scanned};
 ghost use Rattle.page_links.specs.Rewriting.{IsAnew, AreChanged, ReadsOtherwise};
@@ -8,7 +8,7 @@ use crate::comparing::are_changed;
 use crate::page_change::PageChange;
 use crate::writer::Writer;
 use html_links::{Memory, Scan, Scanner, Syntax};
-use std::alloc::Global;
+use std::alloc::{AllocError, Global};
 
 /// What is found in a body of that syntax.
 ///
@@ -20,6 +20,14 @@ pub fn scan(alloc: Global, syntax: Syntax, body: &[u8]) -> Result<Scan, Memory>
     let mut scanner = Scanner::with_syntax(alloc, syntax);
     scanner.feed(body)?;
     scanner.finish()
+}
+
+/// Whether a page stays as it is: what its links and its base become is what they are. `found` is what [`scan`] finds in the page. The error
+/// is out of memory.
+pub fn stays<P: PageChange>(changes: &P, found: &Scan) -> Result<bool, AllocError>
+    ensures { IfOk result (λ stays. stays ≡ true → AreChanged (P.becomes changes.now) (P.known changes.now) (scanned found.now) (scanned found.now)) }
+{
+    are_changed(changes, found, found)
 }
 
 /// A page with its links and its base changed: no byte is another except those of values that have links or are the base, and the links

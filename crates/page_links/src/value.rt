@@ -51,6 +51,7 @@ fn text_anew<P: PageChange>(
     match form {
         ValueForm::Address => address_anew(alloc, changes, ValueForm::Address, text),
         ValueForm::Base => address_anew(alloc, changes, ValueForm::Base, text),
+        ValueForm::Mention => address_anew(alloc, changes, ValueForm::Mention, text),
         ValueForm::Set => {
             let change = InForm::new(changes, ValueForm::Set);
             Ok(source_sets::rewrite(alloc, &change, text.as_bytes())?)
@@ -65,7 +66,7 @@ fn text_anew<P: PageChange>(
 
 /// Whether a value of that form has one link, so that it may stay as it is.
 fn has_one_link(form: ValueForm) -> bool {
-    form == ValueForm::Address || form == ValueForm::Refresh
+    form == ValueForm::Address || form == ValueForm::Refresh || form == ValueForm::Mention
 }
 
 /// A value of that form with its links changed, as it is written; nothing, if its text stays, can't be a value, or isn't clear.

@@ -89,19 +89,21 @@ says_css (Some value) = is_css value
 abbrev pub is_sheet : HeadParts → Bool
 is_sheet head = is_successful head.status && not head.coded && says_css head.content_type
 
--- how a page names what a link leads to
-abbrev pub edge_kind : LinkKind → EdgeKind
-edge_kind link.Link = edge.Link
-edge_kind link.Inline = edge.Inline
+-- how a page names what a link leads to, if it is followed
+abbrev pub edge_kind : LinkKind → Option EdgeKind
+edge_kind link.Link = Some edge.Link
+edge_kind link.Inline = Some edge.Inline
+edge_kind link.Mention = None
 
--- the edge to an address, if there is one
-abbrev pub edge_to : LinkKind → Option AddressText → List Edge
-edge_to kind None = []
-edge_to kind (Some target) = record { target = target; kind = edge_kind kind } ∷ []
+-- the edge of that kind to an address, if there are both
+abbrev pub edge_to : Option EdgeKind → Option AddressText → List Edge
+edge_to None target = []
+edge_to (Some kind) None = []
+edge_to (Some kind) (Some target) = record { target = target; kind = kind } ∷ []
 
--- the edge of a link, if it is taken and its text, joined to the base, is an address
+-- the edge of a link, if it is taken and followed, and its text, joined to the base, is an address
 abbrev pub edge_of : LinkRules → AddressText → Link → List Edge
-edge_of rules base l = if takes rules l then edge_to l.kind (address_or_none (join_address base l.text)) else []
+edge_of rules base l = if takes rules l then edge_to (edge_kind l.kind) (address_or_none (join_address base l.text)) else []
 
 -- the edges of links, in their order
 unfoldable pub edges_from : LinkRules → AddressText → List Link → List Edge
@@ -129,7 +131,7 @@ scanned_front body = take MAX_SCANNED body
 
 -- the edge of a reference of a style sheet, which is in no element: what it leads to is shown
 abbrev pub edge_of_reference : LinkRules → AddressText → List ℕ → List Edge
-edge_of_reference rules at text = if takes_text rules text then edge_to link.Inline (address_or_none (join_address at text)) else []
+edge_of_reference rules at text = if takes_text rules text then edge_to (Some edge.Inline) (address_or_none (join_address at text)) else []
 
 -- the edges of a style sheet: its references, joined to its own address (CSS Values and Units Level 3, section 3.4)
 unfoldable pub sheet_edges : LinkRules → AddressText → List (List ℕ) → List Edge

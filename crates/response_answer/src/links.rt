@@ -33,17 +33,18 @@ pub(crate) fn named(base: &Address, text: &[u8]) -> Result<Option<Address>, Allo
     }
 }
 
-// How a page names what a link leads to.
-fn edge_kind(kind: LinkKind) -> EdgeKind
+// How a page names what a link leads to, if it is followed.
+fn edge_kind(kind: LinkKind) -> Option<EdgeKind>
     ensures { result ≡ edge_kind kind }
 {
     match kind {
-        LinkKind::Link => EdgeKind::Link,
-        LinkKind::Inline => EdgeKind::Inline,
+        LinkKind::Link => Some(EdgeKind::Link),
+        LinkKind::Inline => Some(EdgeKind::Inline),
+        LinkKind::Mention => None,
     }
 }
 
-// Adds the edge of a link, if it is taken and leads to an address.
+// Adds the edge of a link, if it is taken and followed, and leads to an address.
 fn add_edge(
     edges: &mut Vec<Edge>,
     base: &Address,
@@ -55,11 +56,11 @@ fn add_edge(
     if !rules.takes(link) {
         return Ok(());
     }
+    let Some(kind) = edge_kind(link.kind) else {
+        return Ok(());
+    };
     if let Some(target) = joined(base, link.text.as_str())? {
-        edges.push(Edge {
-            target,
-            kind: edge_kind(link.kind),
-        })?;
+        edges.push(Edge { target, kind })?;
     }
     Ok(())
 }

@@ -22,7 +22,7 @@ use Rattle.kept_bodies.specs.declared.body_kind.BodyKind.{BodyKind}
 use Rattle.kept_bodies.specs.declared.body_kind.BodyKind.TheVariants as kinds
 use Rattle.page_links.specs.Rewriting.{IsAnew, AreChanged, AreReferencesChanged}
 use Rattle.run_mirror.specs.Mirrors.{Kept, name_among, name_in, target_in, outcome_among}
-use Rattle.run_mirror.specs.Anew.{KeptPage, form_of, page_in, becomes_in, Leads, LeadsAlike, IsPageAnew, IsSheetAnew, page_at, sheet_at, IsAnewAs, kind_if, is_read, IsAnswer, given}
+use Rattle.run_mirror.specs.Anew.{KeptPage, form_of, kept_for, page_in, becomes_in, Leads, LeadsAlike, IsPageAnew, IsSheetAnew, page_at, sheet_at, IsAnewAs, kind_if, is_read, IsAnswer, given}
 use Rattle.run_mirror.specs.inner.Answers.{IsAnswerAs}
 use Rattle.run_mirror.specs.declared.anew.Anew.{Anew}
 use Rattle.run_mirror.specs.declared.anew.Anew.TheVariants.{Same, Changed, Left}
@@ -50,8 +50,17 @@ name_kept (page ∷ kept) (first ∷ names) u name all e = go (bytes_eq page u) 
     go true h later = subst IsKeptName (some_is first name h) (All-head IsKeptName first names all)
     go false h later = later h
 
+-- so are those to which a link may lead
+names_for : (f : ValueForm) (run : Kept) → All IsKeptName run.names → All IsKeptName (kept_for f run).names
+names_for value.Address run all = all
+names_for value.Base run all = all
+names_for value.Set run all = all
+names_for value.Refresh run all = all
+names_for value.Sheet run all = all
+names_for value.Mention run all = tt
+
 pub is_mirror : (p : KeptPage) (f : ValueForm) → All IsKeptName p.run.names → IsMirror (page_in p f)
-is_mirror p f all = λ address name e. name_kept p.run.kept p.run.names address name all e
+is_mirror p f all = λ address name e. name_kept (kept_for f p.run).kept (kept_for f p.run).names address name (names_for f p.run all) e
 
 -- a link that leads there by the page's clauses
 pub leads_alike : (p : KeptPage) (f : ValueForm) (page : Page) (text : List ℕ) (new : Option (List ℕ)) → page ≡ page_in p f → new ≡ becomes page text
@@ -77,12 +86,13 @@ pub to_itself : (file : List ℕ) → IsKeptName file → resolve file (relative
 to_itself file kept = resolve_relative file file kept.bytes (All-weaker IsInner LeadsDown down (slice_split is_slash file) kept.inside)
 
 -- the page of its parts, by what a link is written in
-abbrev page_with : KeptPage → Form → Page
-page_with p form = record { file = p.file; base = p.base; form = form; name = name_in p.run; target = target_in p.run }
+abbrev page_with : KeptPage → Form → Kept → Page
+page_with p form kept = record { file = p.file; base = p.base; form = form; name = name_in kept; target = target_in kept }
 
-pub page_is : (p : KeptPage) (f : ValueForm) (form : Form) (l : Linked Kept) → l ≡ record { file = p.file; base = p.base; form = form; mirror = p.run } → form_of f ≡ form
-    → page_of (λ run u. name_in run u) (λ run u. target_in run u) l ≡ page_in p f
-page_is p f form l is e = ap (page_of (λ run u. name_in run u) (λ run u. target_in run u)) is ∙ ap (page_with p) (sym e)
+pub page_is : (p : KeptPage) (f : ValueForm) (form : Form) (kept : Kept) (l : Linked Kept) → l ≡ record { file = p.file; base = p.base; form = form; mirror = kept } → form_of f ≡ form
+    → kept_for f p.run ≡ kept → page_of (λ run u. name_in run u) (λ run u. target_in run u) l ≡ page_in p f
+page_is p f form kept l is e r =
+    ap (page_of (λ run u. name_in run u) (λ run u. target_in run u)) is ∙ ap (λ (k : Kept). page_with p form k) (sym r) ∙ ap (λ (other : Form). page_with p other (kept_for f p.run)) (sym e)
 
 -- a page with that base
 abbrev pub page_by : Kept → List ℕ → AddressText → KeptPage

@@ -1,5 +1,5 @@
 -- A kept body with its links changed, so that they lead from its file where they led from its page.
-use Rattle.std.specs.Prelude.{◌≡◌, ◌⊎◌, ℕ, Bool, true, false, List, Option, Some, None, All}
+use Rattle.std.specs.Prelude.{◌≡◌, ◌⊎◌, ℕ, Bool, true, false, List, [], ◌∷◌, Option, Some, None, All}
 use Rattle.std.specs.Option.{unwrap_or}
 use Rattle.address.specs.Address.{AddressText, join_address}
 use Rattle.kept_bodies.specs.declared.body_kind.BodyKind.{BodyKind}
@@ -37,18 +37,35 @@ form_of value.Base = form.Value
 form_of value.Set = form.Set
 form_of value.Refresh = form.Refresh
 form_of value.Sheet = form.Sheet
+form_of value.Mention = form.Value
+
+-- what a run kept of which nothing was kept
+abbrev pub nothing_kept : Kept
+nothing_kept = record { kept = []; names = []; records = [] }
+
+-- of what the run kept, that to which links lead that are written so: to nothing, where a page only mentions a URL
+abbrev pub kept_for : ValueForm → Kept → Kept
+kept_for value.Address run = run
+kept_for value.Base run = run
+kept_for value.Set run = run
+kept_for value.Refresh run = run
+kept_for value.Sheet run = run
+kept_for value.Mention run = nothing_kept
 
 -- the page, of whose links those are meant that are written so
 abbrev pub page_in : KeptPage → ValueForm → Page
-page_in p f = record { file = p.file; base = p.base; form = form_of f; name = name_in p.run; target = target_in p.run }
+page_in p f = record { file = p.file; base = p.base; form = form_of f; name = name_in (kept_for f p.run); target = target_in (kept_for f p.run) }
 
--- what a link becomes that is written so; the base becomes the file itself
+-- what a link becomes that is written so; the base becomes the file itself, and what is only mentioned its whole address, unless it is empty:
+-- then it means the page
 abbrev pub becomes_in : KeptPage → ValueForm → List ℕ → Option (List ℕ)
 becomes_in p value.Address text = becomes (page_in p value.Address) text
 becomes_in p value.Base text = Some (relative p.file p.file)
 becomes_in p value.Set text = becomes (page_in p value.Set) text
 becomes_in p value.Refresh text = becomes (page_in p value.Refresh) text
 becomes_in p value.Sheet text = becomes (page_in p value.Sheet) text
+becomes_in p value.Mention [] = None
+becomes_in p value.Mention (b ∷ bs) = becomes (page_in p value.Mention) (b ∷ bs)
 
 -- A link of that new text leads from the file where it led from the page by the old one, if no name of the run leads out of its folder;
 -- values and sheets can hold whatever is written for it, sets and refreshes all but a few texts.
@@ -67,6 +84,8 @@ Leads p value.Base old new = LeadsToItself p new
 Leads p value.Set old new = LeadsAlike p value.Set old new
 Leads p value.Refresh old new = LeadsAlike p value.Refresh old new
 Leads p value.Sheet old new = LeadsAlike p value.Sheet old new
+Leads p value.Mention [] new = new ≡ []
+Leads p value.Mention (b ∷ bs) new = LeadsAlike p value.Mention (b ∷ bs) new
 
 -- ---- bodies
 

@@ -2,8 +2,8 @@
 ghost use Rattle.std.specs.Prelude.{◌≡◌, IfOk, option_map, string_bytes};
 ghost use Rattle.css_links.specs.Rewriting.{changed};
 ghost use Rattle.html_links.specs.declared.awaiting.ValueForm.{ValueForm};
-ghost use Rattle.html_links.specs.declared.awaiting.ValueForm.TheVariants.{Base};
-ghost use Rattle.run_mirror.specs.Anew.{becomes_in, form_of, page_in, Leads, LeadsAlike, LeadsToItself};
+ghost use Rattle.html_links.specs.declared.awaiting.ValueForm.TheVariants as value;
+ghost use Rattle.run_mirror.specs.Anew.{becomes_in, form_of, kept_for, page_in, Leads, LeadsAlike, LeadsToItself};
 ghost use Rattle.link_changes.specs.Changing.{becomes};
 ghost use Rattle.local_links.specs.Relative.{relative};
 
@@ -59,14 +59,40 @@ impl<'a> KeptPage<'a> {
         }
     }
 
-    /// What a link becomes that is written in that form.
-    fn becomes(&self, form: Form, text: &str) -> Result<Option<String>, AllocError>
-        ensures value { (f : ValueForm) → form_of f ≡ form → IfOk result (λ other. option_map string_bytes other ≡ becomes (page_in self.now f) text.now) }
-        ensures leads { (f : ValueForm) → form_of f ≡ form → IfOk result (λ other. LeadsAlike self.now f text.now (changed (becomes (page_in self.now f)) text.now)) }
+    /// What a link becomes that is written in that form and leads to what of the run was kept so.
+    fn becomes_among(
+        &self,
+        kept: &RunMirror<'_>,
+        form: Form,
+        text: &str,
+    ) -> Result<Option<String>, AllocError>
+        ensures value { (f : ValueForm) → form_of f ≡ form → kept_for f self.now.run ≡ kept.now → IfOk result (λ other. option_map string_bytes other ≡ becomes (page_in self.now f) text.now) }
+        ensures leads { (f : ValueForm) → form_of f ≡ form → kept_for f self.now.run ≡ kept.now → IfOk result (λ other. LeadsAlike self.now f text.now (changed (becomes (page_in self.now f)) text.now)) }
     {
-        let links = Links::new(self.alloc, self.mirror, self.file, self.base, form);
+        let links = Links::new(self.alloc, kept, self.file, self.base, form);
         let other = links.becomes(text)?;
         Ok(other)
+    }
+
+    /// What a link becomes that is written in that form.
+    fn becomes(&self, form: Form, text: &str) -> Result<Option<String>, AllocError>
+        ensures value { (f : ValueForm) → form_of f ≡ form → kept_for f self.now.run ≡ self.now.run → IfOk result (λ other. option_map string_bytes other ≡ becomes (page_in self.now f) text.now) }
+        ensures leads { (f : ValueForm) → form_of f ≡ form → kept_for f self.now.run ≡ self.now.run → IfOk result (λ other. LeadsAlike self.now f text.now (changed (becomes (page_in self.now f)) text.now)) }
+    {
+        self.becomes_among(self.mirror, form, text)
+    }
+
+    /// What a URL becomes that is only mentioned: its whole address, whatever was kept of it, since a form is sent to a server. An empty
+    /// one stays: it means the page (HTML Standard, section 4.10.21.3).
+    fn whole(&self, text: &str) -> Result<Option<String>, AllocError>
+        ensures value { IfOk result (λ other. option_map string_bytes other ≡ becomes_in self.now value.Mention text.now) }
+        ensures leads { IfOk result (λ other. Leads self.now value.Mention text.now (changed (becomes_in self.now value.Mention) text.now)) }
+    {
+        if text.is_empty() {
+            return Ok(None);
+        }
+        let nothing = RunMirror::new(&[], &[], &[]);
+        self.becomes_among(&nothing, Form::Value, text)
     }
 
     /// What the base becomes: the file itself.
@@ -91,6 +117,7 @@ impl<'a> PageChange for KeptPage<'a> {
             ValueForm::Set => self.becomes(Form::Set, text),
             ValueForm::Refresh => self.becomes(Form::Refresh, text),
             ValueForm::Sheet => self.becomes(Form::Sheet, text),
+            ValueForm::Mention => self.whole(text),
         }
     }
 }

@@ -39,10 +39,13 @@ fn are_same(links: &[Found], others: &[Found]) -> bool {
             && link.text.as_str() == other.text.as_str())
 }
 
-/// Whether these links lead from this base where the edges lead.
+/// Whether those of these links that are followed lead from this base where the edges lead.
 fn lead_to(base: &Address, links: &[Found], edges: &[Edge]) -> Result<bool, AllocError> {
     let mut left = edges;
     for link in links {
+        if !link.kind.is_followed() {
+            continue;
+        }
         match base.join(link.text.as_str()) {
             Ok(target) => {
                 let [edge, more @ ..] = left else {

@@ -77,6 +77,12 @@ fn each_form_of_value_is_changed(rt: HostRuntime) {
         "<meta http-equiv=refresh content='1;url=b'>",
         "<meta http-equiv=refresh content='1;url=m/b'>",
     );
+    expect_anew(
+        &rt,
+        alloc,
+        "<form action='b'><q cite=c>",
+        "<form action='m/b'><q cite=m/c>",
+    );
 }
 
 #[test]

@@ -5,7 +5,7 @@ use Rattle.std.specs.Option.{option_or}
 use Rattle.std.specs.Str.{is_utf8}
 use Rattle.address.specs.Address.{AddressText, is_robots_file, join_address}
 use Rattle.address.specs.declared.fault.AddressFault.{AddressFault}
-use Rattle.html_links.specs.Links.{Link, Links, links_of_body, present}
+use Rattle.html_links.specs.Links.{Link, Links, leads_on, links_of_body, present}
 use Rattle.html_links.specs.Values.{trimmed}
 use Rattle.html_links.specs.declared.context.Syntax.TheVariants.{Html}
 use Rattle.options.specs.Order.{read_start}
@@ -101,9 +101,9 @@ abbrev pub base_of_document : Bool → Option AddressText → Option (List ℕ) 
 base_of_document by_proxy base None = base
 base_of_document by_proxy base (Some text) = option_or (resolved by_proxy base text) base
 
--- the start that a link names, if it names one
+-- the start that a link names, if it is followed and names one
 abbrev pub link_starts : Bool → Option AddressText → Link → List AddressText
-link_starts by_proxy base link = present (unless_robots (resolved by_proxy base link.text))
+link_starts by_proxy base link = if leads_on link.kind then present (unless_robots (resolved by_proxy base link.text)) else []
 
 -- the starts of a document: what its links name, of which some may name nothing
 abbrev pub starts_of_links : Bool → Option AddressText → Links → List AddressText

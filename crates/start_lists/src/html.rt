@@ -23,7 +23,7 @@ fn named_base(
     }
 }
 
-// Adds the start that a link names, if it names one.
+// Adds the start that a link names, if it is followed and names one.
 fn push_link(
     alloc: Global,
     starts: &mut Vec<Address>,
@@ -33,6 +33,9 @@ fn push_link(
 ) -> Result<(), AllocError>
     ensures { OnOk result (starts.new.items ≡ starts.old.items ++ link_starts by_proxy (option_map (λ b. b.now) base.entry) link.now) }
 {
+    if !link.kind.is_followed() {
+        return Ok(());
+    }
     let found = resolved(alloc, by_proxy, base, link.text.as_str())?;
     if let Some(start) = unless_robots(found) {
         starts.push(start)?;

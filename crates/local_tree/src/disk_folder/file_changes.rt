@@ -34,13 +34,21 @@ pub(crate) struct FileChange {
     len: u64,
 }
 
+// What room is filled with, many bytes at a time.
+static ZEROS: [u8; 4096] = [0; 4096];
+
 // Room for so many bytes.
 fn new_room(alloc: Global, len: u64) -> io::Result<Vec<u8>> {
     let Ok(len) = usize::try_from(len) else {
         return Err(Error::from(ErrorKind::OutOfMemory));
     };
-    let mut room = Vec::new(alloc);
-    room.resize(len, 0)?;
+    let mut room = Vec::with_capacity(alloc, len)?;
+    let mut left = len;
+    while left > ZEROS.len() {
+        room.extend_from_slice(&ZEROS)?;
+        left -= ZEROS.len();
+    }
+    room.extend_from_slice(&ZEROS[..left])?;
     Ok(room)
 }
 

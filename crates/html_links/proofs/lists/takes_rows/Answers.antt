@@ -21,5 +21,5 @@ loop-place-preserved c =
 pub returns : goal.returns
 returns c =
     let takes = takes_row c.args.followed.now c.args.ignored.now in
-    fill_by_all (λ k. takes (row_at k)) c.loop-place.taken 38 false c.loop-place.invariant.0 (λ k below. c.loop-place.invariant.1 k (omega (arith, c.loop-place-test.false)))
+    fill_by_all (λ k. takes (row_at k)) c.loop-place.taken 45 false c.loop-place.invariant.0 (λ k below. c.loop-place.invariant.1 k (omega (arith, c.loop-place-test.false)))
     ∙ all_rows takes
