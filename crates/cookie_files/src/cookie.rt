@@ -8,7 +8,7 @@ ghost use Rattle.cookie_files.specs.Matches.{IsClean, goes, pair_of};
 ghost use Rattle.cookie_files.specs.inner.AskedView.{asked_value};
 ghost use Rattle.cookie_files.specs.inner.FieldsView.{fields_value};
 
-use crate::fields::{Fields, is_true, number_in, place_in, port_number};
+use crate::fields::{CookieFields, is_true, number_in, place_in, port_number};
 use crate::matching::{Asked, domain_matches, is_alive, is_safe, path_matches, port_matches};
 use std::alloc::{AllocError, Global};
 use std::marker::Model;
@@ -82,7 +82,7 @@ fn is_same_port(one: Option<u16>, other: Option<u16>) -> bool
 impl Cookie {
     /// The cookie that the fields say.
     #[tactic(auto, unfolding(crate::specs::Lines::cookie_of))]
-    pub(crate) fn of(alloc: Global, fields: &Fields<'_>) -> Result<Cookie, AllocError>
+    pub(crate) fn of(alloc: Global, fields: &CookieFields<'_>) -> Result<Cookie, AllocError>
         requires { fault_of (fields_value fields.now) ≡ None }
         ensures { IfOk result (λ cookie. cookie ≡ cookie_of (fields_value fields.now)) }
     {

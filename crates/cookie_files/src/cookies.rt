@@ -9,7 +9,7 @@ ghost use Rattle.cookie_files.specs.inner.FieldsView.{fields_value};
 
 use crate::cookie::Cookie;
 use crate::fault::CookieFault;
-use crate::fields::{Fields, cut};
+use crate::fields::{CookieFields, cut};
 use crate::line::read_line;
 use crate::matching::{Asked, asked_of};
 use address::Address;
@@ -91,7 +91,7 @@ fn add(cookies: &mut Vec<Cookie>, cookie: Cookie) -> Result<(), AllocError>
 fn add_said(
     alloc: Global,
     cookies: &mut Vec<Cookie>,
-    said: Option<Fields<'_>>,
+    said: Option<CookieFields<'_>>,
 ) -> Result<(), AllocError>
     requires { IfSome said (λ found. fault_of (fields_value found) ≡ None) }
     ensures { OnOk result (cookies.new.items ≡ said_by cookies.old.items (option_map fields_value said.entry)) }

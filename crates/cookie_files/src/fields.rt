@@ -11,7 +11,7 @@ const MAX_BEFORE: u64 = 1_000_000_000_000_000_000;
 
 /// The fields of a line, as they are written.
 #[derive(Clone, Copy)]
-pub(crate) struct Fields<'a> {
+pub(crate) struct CookieFields<'a> {
     pub(crate) domain: &'a [u8],
     pub(crate) subdomains: &'a [u8],
     pub(crate) path: &'a [u8],
@@ -41,7 +41,7 @@ pub(crate) fn cut(mark: u8, text: &[u8]) -> Option<(&[u8], &[u8])>
 
 /// The fields of a line; the last has no end.
 #[tactic(auto, unfolding(crate::specs::Lines::fields_of))]
-pub(crate) fn fields_of(line: &[u8]) -> Option<Fields<'_>>
+pub(crate) fn fields_of(line: &[u8]) -> Option<CookieFields<'_>>
     ensures { option_map fields_value result ≡ fields_of line.now }
 {
     let (domain, rest) = cut(b'\t', line)?;
@@ -50,7 +50,7 @@ pub(crate) fn fields_of(line: &[u8]) -> Option<Fields<'_>>
     let (secure, rest) = cut(b'\t', rest)?;
     let (expiry, rest) = cut(b'\t', rest)?;
     let (name, value) = cut(b'\t', rest)?;
-    Some(Fields {
+    Some(CookieFields {
         domain,
         subdomains,
         path,
@@ -245,7 +245,7 @@ fn is_value(text: &[u8]) -> bool
 
 /// The first of the fields that can't be.
 #[tactic(auto, unfolding(crate::specs::Lines::fault_of))]
-pub(crate) fn fault_of(fields: &Fields<'_>) -> Option<CookieLineFault>
+pub(crate) fn fault_of(fields: &CookieFields<'_>) -> Option<CookieLineFault>
     ensures { result ≡ fault_of (fields_value fields.now) }
 {
     if !is_domain(fields.domain) {

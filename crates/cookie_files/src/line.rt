@@ -4,7 +4,7 @@ ghost use Rattle.cookie_files.specs.Lines.{fault_of, is_silent, read_line, sound
 ghost use Rattle.cookie_files.specs.inner.FieldsView.{fields_value, said_value};
 
 use crate::fault::CookieLineFault;
-use crate::fields::{Fields, fault_of, fields_of};
+use crate::fields::{CookieFields, fault_of, fields_of};
 
 // The line before CR LF.
 fn without_return(line: &[u8]) -> &[u8]
@@ -36,7 +36,7 @@ fn is_silent(line: &[u8]) -> bool
 }
 
 // The fields, unless one can't be.
-fn sound(fields: Option<Fields<'_>>) -> Result<Option<Fields<'_>>, CookieLineFault>
+fn sound(fields: Option<CookieFields<'_>>) -> Result<Option<CookieFields<'_>>, CookieLineFault>
     ensures value { said_value result ≡ sound (option_map fields_value fields.entry) }
     ensures sound { IfOk result (λ said. IfSome said (λ found. fault_of (fields_value found) ≡ None)) }
 {
@@ -51,7 +51,7 @@ fn sound(fields: Option<Fields<'_>>) -> Result<Option<Fields<'_>>, CookieLineFau
 
 /// What a line says: the fields of a cookie, or nothing.
 #[tactic(auto, unfolding(crate::specs::Lines::read_line))]
-pub(crate) fn read_line(text: &[u8]) -> Result<Option<Fields<'_>>, CookieLineFault>
+pub(crate) fn read_line(text: &[u8]) -> Result<Option<CookieFields<'_>>, CookieLineFault>
     ensures value { said_value result ≡ read_line text.now }
     ensures sound { IfOk result (λ said. IfSome said (λ found. fault_of (fields_value found) ≡ None)) }
 {

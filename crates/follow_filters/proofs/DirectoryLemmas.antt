@@ -7,7 +7,7 @@ use Rattle.std.specs.Option.{option_and_then}
 use Rattle.part_match.specs.Cuts.{Matches, is_match}
 use Rattle.part_match.proofs.Decided.{is_match-cuts}
 use Rattle.follow_filters.specs.declared.elements.ElementFault.{ElementFault}
-use Rattle.follow_filters.specs.declared.pattern.Part.{Part}
+use Rattle.follow_filters.specs.declared.pattern.PatternPart.{PatternPart}
 use Rattle.follow_filters.specs.Elements.{IsFaultOf}
 use Rattle.follow_filters.specs.Patterns.{is_run, takes_in, parts_spelled}
 use Rattle.follow_filters.specs.Lists.{read_all}
@@ -17,10 +17,10 @@ use Rattle.follow_filters.proofs.ClassLemmas.{behind, behind-more}
 -- ---- the test says what is meant
 
 -- the names match the first of those one by one, and more follow
-abbrev pub Begins : Bool → List (List Part) → List (List ℕ) → Type 0
+abbrev pub Begins : Bool → List (List PatternPart) → List (List ℕ) → Type 0
 Begins ignores_case names all = (front rest : List (List ℕ)) × (all ≡ front ++ rest) × (rest ≢ []) × AllZip (Matches is_run (takes_in ignores_case)) names front
 
-begins_to : (ignores_case : Bool) (names : List (List Part)) (all : List (List ℕ)) → begins_with_names ignores_case names all ≡ true → Begins ignores_case names all
+begins_to : (ignores_case : Bool) (names : List (List PatternPart)) (all : List (List ℕ)) → begins_with_names ignores_case names all ≡ true → Begins ignores_case names all
 begins_to ignores_case [] [] h = cc
 begins_to ignores_case [] (x ∷ xs) h = ([], x ∷ xs, refl, (λ none. cc), tt)
 begins_to ignores_case (name ∷ names) [] h = cc
@@ -29,7 +29,7 @@ begins_to ignores_case (name ∷ names) (x ∷ xs) h =
     let later = begins_to ignores_case names xs both.1 in
     (x ∷ later.0, later.1, ap (λ ys. x ∷ ys) later.2, later.3, ((is_match-cuts is_run (takes_in ignores_case) name x).0 both.0, later.4))
 
-begins_from : (ignores_case : Bool) (names : List (List Part)) (all front rest : List (List ℕ)) → all ≡ front ++ rest → rest ≢ []
+begins_from : (ignores_case : Bool) (names : List (List PatternPart)) (all front rest : List (List ℕ)) → all ≡ front ++ rest → rest ≢ []
     → AllZip (Matches is_run (takes_in ignores_case)) names front → begins_with_names ignores_case names all ≡ true
 begins_from ignores_case [] [] [] rest is some zip = absurd (some (sym is))
 begins_from ignores_case [] (x ∷ xs) [] rest is some zip = refl
@@ -41,7 +41,7 @@ begins_from ignores_case (name ∷ names) (x ∷ xs) (y ∷ ys) rest is some (he
     let others : xs ≡ ys ++ rest = cc in
     and_from _ _ ((is_match-cuts is_run (takes_in ignores_case) name x).1 (subst (Matches is_run (takes_in ignores_case) name) first here)) (begins_from ignores_case names xs ys rest others some later)
 
-pub begins_with_read-Decides : (ignores_case : Bool) (read : Option (List (List Part))) (all : List (List ℕ)) → Decides (begins_with_read ignores_case read all) ((names : List (List Part)) × (front rest : List (List ℕ)) × (read ≡ Some names) × (all ≡ front ++ rest) × (rest ≢ []) × AllZip (Matches is_run (takes_in ignores_case)) names front)
+pub begins_with_read-Decides : (ignores_case : Bool) (read : Option (List (List PatternPart))) (all : List (List ℕ)) → Decides (begins_with_read ignores_case read all) ((names : List (List PatternPart)) × (front rest : List (List ℕ)) × (read ≡ Some names) × (all ≡ front ++ rest) × (rest ≢ []) × AllZip (Matches is_run (takes_in ignores_case)) names front)
 begins_with_read-Decides ignores_case None all = (λ yes. cc, λ begins. let none = begins.3 in cc)
 begins_with_read-Decides ignores_case (Some names) all = (
   λ yes. let begins = begins_to ignores_case names all yes in (names, begins.0, begins.1, refl, begins.2, begins.3, begins.4),
@@ -51,7 +51,7 @@ begins_with_read-Decides ignores_case (Some names) all = (
 )
 
 -- what an element has is what its names begin
-pub is_in_directory-names : (ignores_case : Bool) (element directory : List ℕ) (names : List (List Part)) → read_names element ≡ Some names → is_in_directory ignores_case element directory ≡ begins_with_names ignores_case names (names_in directory)
+pub is_in_directory-names : (ignores_case : Bool) (element directory : List ℕ) (names : List (List PatternPart)) → read_names element ≡ Some names → is_in_directory ignores_case element directory ≡ begins_with_names ignores_case names (names_in directory)
 unfolding is_in_directory
 is_in_directory-names ignores_case element directory names reads = ap (λ read. begins_with_read ignores_case read (names_in directory)) reads
 
@@ -68,12 +68,12 @@ some_names ignores_case (x ∷ xs) = go (is_slash x) (slice_split is_slash xs)
     go false (part ∷ parts) = refl
 
 -- the last name is there, and none after it
-pub begins-last : (ignores_case : Bool) (name : List Part) (names : List (List Part)) (x : List ℕ) → begins_with_names ignores_case (name ∷ names) (x ∷ []) ≡ false
+pub begins-last : (ignores_case : Bool) (name : List PatternPart) (names : List (List PatternPart)) (x : List ℕ) → begins_with_names ignores_case (name ∷ names) (x ∷ []) ≡ false
 begins-last ignores_case name [] x = and_right _ _ refl
 begins-last ignores_case name (n ∷ names) x = and_right _ _ refl
 
 -- a name is read, and the names after it
-pub names-more : (front : List (List Part)) (text first rest : List ℕ) (name : List Part) → names_in text ≡ first ∷ names_in rest → parts_spelled first ≡ Some name → behind (front ++ name ∷ []) (read_names rest) ≡ behind front (read_names text)
+pub names-more : (front : List (List PatternPart)) (text first rest : List ℕ) (name : List PatternPart) → names_in text ≡ first ∷ names_in rest → parts_spelled first ≡ Some name → behind (front ++ name ∷ []) (read_names rest) ≡ behind front (read_names text)
 names-more front text first rest name cut is =
     behind-more front name (read_names rest)
     ∙ ap (λ r. behind front (option_and_then (λ y. option_map (λ ys. y ∷ ys) (read_names rest)) r)) (sym is)
@@ -84,7 +84,7 @@ pub names-some : (text first rest : List ℕ) → names_in text ≡ first ∷ na
 names-some text first rest cut spelled =
     go (parts_spelled first) (read_names rest) spelled ∙ ap (λ names. is_some (read_all parts_spelled names)) (sym cut)
   where
-    go : (o : Option (List Part)) (others : Option (List (List Part))) → is_some o ≡ true → is_some others ≡ is_some (option_and_then (λ y. option_map (λ ys. y ∷ ys) others) o)
+    go : (o : Option (List PatternPart)) (others : Option (List (List PatternPart))) → is_some o ≡ true → is_some others ≡ is_some (option_and_then (λ y. option_map (λ ys. y ∷ ys) others) o)
     go None others some = cc
     go (Some y) None some = refl
     go (Some y) (Some ys) some = refl
@@ -93,7 +93,7 @@ names-some text first rest cut spelled =
 pub names-some-last : (text first : List ℕ) → names_in text ≡ first ∷ [] → is_some (parts_spelled first) ≡ true → is_some (read_names text) ≡ true
 names-some-last text first cut spelled = ap (λ names. is_some (read_all parts_spelled names)) cut ∙ go (parts_spelled first) spelled
   where
-    go : (o : Option (List Part)) → is_some o ≡ true → is_some (option_and_then (λ (y : List Part). option_map (λ (ys : List (List Part)). y ∷ ys) (Some [])) o) ≡ true
+    go : (o : Option (List PatternPart)) → is_some o ≡ true → is_some (option_and_then (λ (y : List PatternPart). option_map (λ (ys : List (List PatternPart)). y ∷ ys) (Some [])) o) ≡ true
     go None some = cc
     go (Some y) some = refl
 
@@ -101,7 +101,7 @@ names-some-last text first cut spelled = ap (λ names. is_some (read_all parts_s
 pub names-none : (text first : List ℕ) (others : List (List ℕ)) → names_in text ≡ first ∷ others → is_some (parts_spelled first) ≡ false → is_some (read_names text) ≡ false
 names-none text first others cut none = ap (λ names. is_some (read_all parts_spelled names)) cut ∙ go (parts_spelled first) none
   where
-    go : (o : Option (List Part)) → is_some o ≡ false → is_some (option_and_then (λ (y : List Part). option_map (λ (ys : List (List Part)). y ∷ ys) (read_all parts_spelled others)) o) ≡ false
+    go : (o : Option (List PatternPart)) → is_some o ≡ false → is_some (option_and_then (λ (y : List PatternPart). option_map (λ (ys : List (List PatternPart)). y ∷ ys) (read_all parts_spelled others)) o) ≡ false
     go None h = refl
     go (Some y) h = cc
 
@@ -111,7 +111,7 @@ names-bad text first others cut bad =
     ap (read_all parts_spelled) cut ∙ ap (λ r. option_and_then (λ y. option_map (λ ys. y ∷ ys) (read_all parts_spelled others)) r) bad
 
 -- the last name
-pub names-last : (front : List (List Part)) (text first : List ℕ) (name : List Part) → names_in text ≡ first ∷ [] → parts_spelled first ≡ Some name → behind front (read_names text) ≡ Some (front ++ name ∷ [])
+pub names-last : (front : List (List PatternPart)) (text first : List ℕ) (name : List PatternPart) → names_in text ≡ first ∷ [] → parts_spelled first ≡ Some name → behind front (read_names text) ≡ Some (front ++ name ∷ [])
 names-last front text first name cut is =
     ap (λ names. behind front (read_all parts_spelled names)) cut ∙ ap (λ r. behind front (option_and_then (λ y. option_map (λ ys. y ∷ ys) (Some [])) r)) is
 
@@ -121,7 +121,7 @@ first_name names first short None cut = ([], cut)
 first_name names first short (Some r) cut = (names_in r.now, cut.0)
 
 -- a bad name, or memory that ran out, is reported for the text
-pub names_fault : (front : List (List Part)) (text rest first : List ℕ) (others : List (List ℕ)) (fault : ElementFault) → behind front (read_names rest) ≡ read_names text → names_in rest ≡ first ∷ others → IsFaultOf (parts_spelled first) fault → IsFaultOf (read_names text) fault
+pub names_fault : (front : List (List PatternPart)) (text rest first : List ℕ) (others : List (List ℕ)) (fault : ElementFault) → behind front (read_names rest) ≡ read_names text → names_in rest ≡ first ∷ others → IsFaultOf (parts_spelled first) fault → IsFaultOf (read_names text) fault
 names_fault front text rest first others fault so_far cut (inl (bad, none)) = inl (bad, sym so_far ∙ ap (behind front) (names-bad rest first others cut none))
 names_fault front text rest first others fault so_far cut (inr memory) = inr memory
 
@@ -153,7 +153,7 @@ pub directory_some : (text : List ℕ) → is_some (read_directory text) ≡ is_
 unfolding read_directory
 directory_some text = mapped (λ names. rooted (without_closing_slashes text)) (read_names (rooted (without_closing_slashes text))) ∙ rooted_some (without_closing_slashes text)
 
-pub directory_read : (text whole : List ℕ) (names : List (List Part)) → whole ≡ rooted (without_closing_slashes text) → read_names whole ≡ Some names → read_directory text ≡ Some whole
+pub directory_read : (text whole : List ℕ) (names : List (List PatternPart)) → whole ≡ rooted (without_closing_slashes text) → read_names whole ≡ Some names → read_directory text ≡ Some whole
 unfolding read_directory
 directory_read text whole names is reads = ap (λ o. option_map (λ ns. rooted (without_closing_slashes text)) o) (ap read_names (sym is) ∙ reads) ∙ ap Some (sym is)
 

@@ -7,8 +7,8 @@ use Rattle.fetcher.specs.declared.edge.EdgeKind.{EdgeKind}
 use Rattle.fetcher.specs.declared.edge.EdgeKind.TheVariants.{Link, Inline, Redirect}
 use Rattle.address.specs.Address.{host_of, dir_of}
 use Rattle.follow_filters.specs.declared.plan.Plan.{Plan}
-use Rattle.follow_filters.specs.declared.rule.Rule.{Rule}
-use Rattle.follow_filters.specs.declared.rule.Rule.TheVariants as rule
+use Rattle.follow_filters.specs.declared.rule.FollowRule.{FollowRule}
+use Rattle.follow_filters.specs.declared.rule.FollowRule.TheVariants as rule
 use Rattle.follow_filters.specs.Plans.{starts}
 use Rattle.follow_filters.specs.Rules.{rules, LeadsAnywhere, leads_anywhere, HasStartHost, meets, follows_of, passes_of, has_host_of, is_below, has_start_host}
 use Rattle.follow_filters.proofs.Meaning.{follows_of-is}
@@ -33,7 +33,7 @@ nowhere plan page kind alone = and_right _ _ alone
 -- ---- pages on the start's host
 
 -- a page on the host of another may lead where that leads
-pub meets_alike : (plan : Plan) (page other : List ℕ) (kind : EdgeKind) (address : List ℕ) → host_of page ≡ host_of other → (r : Rule) → meets r plan page kind address ≡ meets r plan other kind address
+pub meets_alike : (plan : Plan) (page other : List ℕ) (kind : EdgeKind) (address : List ℕ) → host_of page ≡ host_of other → (r : FollowRule) → meets r plan page kind address ≡ meets r plan other kind address
 unfolding meets
 meets_alike plan page other kind address hosts rule.RobotsFile = refl
 meets_alike plan page other kind address hosts rule.Host =
@@ -50,7 +50,7 @@ meets_alike plan page other kind address hosts rule.ExpressionMissing = refl
 meets_alike plan page other kind address hosts rule.ExpressionFound = refl
 
 -- if hosts are spanned and requisites aren't, each edge may lead to where another does
-pub meets_anywhere : (plan : Plan) (page other : List ℕ) (kind another : EdgeKind) (address : List ℕ) → plan.span_hosts ≡ true → plan.span_requisites ≡ false → (r : Rule) → meets r plan page kind address ≡ meets r plan other another address
+pub meets_anywhere : (plan : Plan) (page other : List ℕ) (kind another : EdgeKind) (address : List ℕ) → plan.span_hosts ≡ true → plan.span_requisites ≡ false → (r : FollowRule) → meets r plan page kind address ≡ meets r plan other another address
 unfolding meets
 meets_anywhere plan page other kind another address spans alone rule.RobotsFile = refl
 meets_anywhere plan page other kind another address spans alone rule.Host = rw (nowhere plan page kind alone, nowhere plan other another alone, spans) refl
@@ -65,7 +65,7 @@ meets_anywhere plan page other kind another address spans alone rule.ExpressionM
 meets_anywhere plan page other kind another address spans alone rule.ExpressionFound = refl
 
 -- if requisites aren't spanned, the kind of an edge doesn't count
-pub meets_any_kind : (plan : Plan) (page : List ℕ) (kind another : EdgeKind) (address : List ℕ) → plan.span_requisites ≡ false → (r : Rule) → meets r plan page kind address ≡ meets r plan page another address
+pub meets_any_kind : (plan : Plan) (page : List ℕ) (kind another : EdgeKind) (address : List ℕ) → plan.span_requisites ≡ false → (r : FollowRule) → meets r plan page kind address ≡ meets r plan page another address
 unfolding meets
 meets_any_kind plan page kind another address alone rule.RobotsFile = refl
 meets_any_kind plan page kind another address alone rule.Host = rw (nowhere plan page kind alone, nowhere plan page another alone) refl
@@ -178,7 +178,7 @@ anywhere_of_set p q page Link like = refl
 anywhere_of_set p q page Inline like = like.span_requisites
 anywhere_of_set p q page Redirect like = ap (λ b. not b && p.span_requisites) (has_start_of_set p q page like) ∙ ap (λ b. not (has_start_host q page) && b) like.span_requisites
 
-meets_of_set : (p q : Plan) (page : List ℕ) (kind : EdgeKind) (address : List ℕ) → IsAlike p q → (r : Rule) → meets r p page kind address ≡ meets r q page kind address
+meets_of_set : (p q : Plan) (page : List ℕ) (kind : EdgeKind) (address : List ℕ) → IsAlike p q → (r : FollowRule) → meets r p page kind address ≡ meets r q page kind address
 unfolding meets
 meets_of_set p q page kind address like rule.RobotsFile = refl
 meets_of_set p q page kind address like rule.Host = rw (anywhere_of_set p q page kind like, has_start_of_set p q page like, like.span_hosts, like.span_requisites) refl

@@ -14,9 +14,9 @@ use Rattle.fetcher.specs.declared.edge.EdgeKind.{EdgeKind}
 use Rattle.fetcher.specs.declared.edge.EdgeKind.TheVariants.{Link, Inline, Redirect}
 use Rattle.address.specs.Address.{host_of, dir_of, file_of, path_query_of}
 use Rattle.follow_filters.specs.declared.plan.Plan.{Plan}
-use Rattle.follow_filters.specs.declared.pattern.Part.{Part}
-use Rattle.follow_filters.specs.declared.rule.Rule.{Rule}
-use Rattle.follow_filters.specs.declared.rule.Rule.TheVariants as rule
+use Rattle.follow_filters.specs.declared.pattern.PatternPart.{PatternPart}
+use Rattle.follow_filters.specs.declared.rule.FollowRule.{FollowRule}
+use Rattle.follow_filters.specs.declared.rule.FollowRule.TheVariants as rule
 use Rattle.follow_filters.specs.Plans.{starts}
 use Rattle.follow_filters.specs.Texts.{BeginsWith, EndsIn}
 use Rattle.follow_filters.specs.Domains.{IsInDomain, is_in_domain}
@@ -56,7 +56,7 @@ is_exempt_file-Decides : (file : List ℕ) → Decides (is_exempt_file file) (Is
 is_exempt_file-Decides file =
     Decides-or _ _ (bytes_eq-Decides file []) (Decides-or _ _ (ends_with-Decides file (codes ".htm")) (ends_with-Decides file (codes ".html")))
 
-matches_read-Decides : (ignores_case : Bool) (read : Option (List Part)) (file : List ℕ) → Decides (matches_read ignores_case read file) ((parts : List Part) × (read ≡ Some parts) × Matches is_run (takes_in ignores_case) parts file)
+matches_read-Decides : (ignores_case : Bool) (read : Option (List PatternPart)) (file : List ℕ) → Decides (matches_read ignores_case read file) ((parts : List PatternPart) × (read ≡ Some parts) × Matches is_run (takes_in ignores_case) parts file)
 matches_read-Decides ignores_case None file = (λ yes. cc, λ match. let none = match.1 in cc)
 matches_read-Decides ignores_case (Some parts) file =
     let cut = is_match-cuts is_run (takes_in ignores_case) parts file in
@@ -119,7 +119,7 @@ is_shown-Decides plan page Redirect = Decides-not _ (has_start_host-Decides plan
 leads_anywhere-Decides : (plan : Plan) (page : List ℕ) (kind : EdgeKind) → Decides (leads_anywhere plan page kind) (LeadsAnywhere plan page kind)
 leads_anywhere-Decides plan page kind = Decides-and _ _ (is_shown-Decides plan page kind) (λ yes. yes, λ yes. yes)
 
-pub meets-Decides : (r : Rule) (plan : Plan) (page : List ℕ) (kind : EdgeKind) (address : List ℕ) → Decides (meets r plan page kind address) (Meets r plan page kind address)
+pub meets-Decides : (r : FollowRule) (plan : Plan) (page : List ℕ) (kind : EdgeKind) (address : List ℕ) → Decides (meets r plan page kind address) (Meets r plan page kind address)
 unfolding meets
 meets-Decides rule.RobotsFile plan page kind address = Decides-not _ (bytes_eq-Decides (path_query_of address) (codes "/robots.txt"))
 meets-Decides rule.Host plan page kind address =
@@ -152,7 +152,7 @@ passed : {X : Type 0} (p : X → Bool) (xs : List X) (i : ℕ) (d : X) → i < l
 passed p xs i d below all = ⊎_elim (λ yes. yes) (λ no. let some = list_all_at p xs i d below no in cc) (cases_Bool (p (get_or xs i d)))
 
 -- the place of a rule among the rules
-place : Rule → ℕ
+place : FollowRule → ℕ
 place rule.RobotsFile = 0
 place rule.Host = 1
 place rule.Parent = 2
@@ -166,7 +166,7 @@ place rule.ExpressionMissing = 9
 place rule.ExpressionFound = 10
 
 -- every rule is among the rules
-listed : (r : Rule) → (place r < length rules) × (get_or rules (place r) rule.Rejected ≡ r)
+listed : (r : FollowRule) → (place r < length rules) × (get_or rules (place r) rule.Rejected ≡ r)
 unfolding place
 listed rule.RobotsFile = (omega arith, refl)
 listed rule.Host = (omega arith, refl)
@@ -181,7 +181,7 @@ listed rule.ExpressionMissing = (omega arith, refl)
 listed rule.ExpressionFound = (omega arith, refl)
 
 -- what each rule of a list says, its tests say together
-all_met : (plan : Plan) (page : List ℕ) (kind : EdgeKind) (address : List ℕ) (rs : List Rule) → ((r : Rule) → meets r plan page kind address ≡ true) → list_all (λ r. meets r plan page kind address) rs ≡ true
+all_met : (plan : Plan) (page : List ℕ) (kind : EdgeKind) (address : List ℕ) (rs : List FollowRule) → ((r : FollowRule) → meets r plan page kind address ≡ true) → list_all (λ r. meets r plan page kind address) rs ≡ true
 all_met plan page kind address [] each = refl
 all_met plan page kind address (r ∷ rs) each = and_from _ _ (each r) (all_met plan page kind address rs each)
 
@@ -202,7 +202,7 @@ passes_of-is plan address = follows_of-is plan plan.start Link address
 -- ---- the first rule that isn't met
 
 -- no element fails a test exactly if all pass it
-find-list_all : (q : Rule → Bool) (rs : List Rule) → is_ok (verdict_from (find (λ r. not (q r)) rs)) ≡ list_all q rs
+find-list_all : (q : FollowRule → Bool) (rs : List FollowRule) → is_ok (verdict_from (find (λ r. not (q r)) rs)) ≡ list_all q rs
 find-list_all q [] = refl
 find-list_all q (r ∷ rs) =
     let P : Bool → Type 0 = λ b. is_ok (verdict_from (cond (not b) (Some r) (find (λ s. not (q s)) rs))) ≡ (b && list_all q rs) in
@@ -214,7 +214,7 @@ unfolding follows_of first_unmet
 verdict-follows plan page kind address = find-list_all (λ r. meets r plan page kind address) rules
 
 -- what is found first comes after what passes the test, and fails it
-find-split : (q : Rule → Bool) (rs : List Rule) (u : Rule) → find (λ r. not (q r)) rs ≡ Some u → (before after : List Rule) × (rs ≡ before ++ u ∷ after) × All (λ r. q r ≡ true) before × (q u ≡ false)
+find-split : (q : FollowRule → Bool) (rs : List FollowRule) (u : FollowRule) → find (λ r. not (q r)) rs ≡ Some u → (before after : List FollowRule) × (rs ≡ before ++ u ∷ after) × All (λ r. q r ≡ true) before × (q u ≡ false)
 find-split q [] u found = cc
 find-split q (r ∷ rs) u found =
     ⊎_elim
@@ -229,7 +229,7 @@ find-split q (r ∷ rs) u found =
     (cases_Bool (q r))
 
 -- what the first unmet rule, or none, says of the rules
-means_from : (plan : Plan) (page : List ℕ) (kind : EdgeKind) (address : List ℕ) (found : Option Rule) → first_unmet plan page kind address ≡ found → MatchResult (verdict_from found) (λ nothing. Follows plan page kind address) (IsFirstUnmetBy plan page kind address)
+means_from : (plan : Plan) (page : List ℕ) (kind : EdgeKind) (address : List ℕ) (found : Option FollowRule) → first_unmet plan page kind address ≡ found → MatchResult (verdict_from found) (λ nothing. Follows plan page kind address) (IsFirstUnmetBy plan page kind address)
 unfolding first_unmet
 means_from plan page kind address None none =
     (follows_of-is plan page kind address).0 (sym (verdict-follows plan page kind address) ∙ ap (λ o. is_ok (verdict_from o)) none)
@@ -241,7 +241,7 @@ pub verdict-means : (plan : Plan) (page : List ℕ) (kind : EdgeKind) (address :
 verdict-means plan page kind address = means_from plan page kind address (first_unmet plan page kind address) refl
 
 -- what an answer that is the verdict says
-pub told : (plan : Plan) (page : List ℕ) (kind : EdgeKind) (address : List ℕ) (answer : Result (Unit {0}) Rule) → answer ≡ edge_verdict plan page kind address → (is_ok answer ≡ follows_of plan page kind address) × MatchResult answer (λ nothing. Follows plan page kind address) (IsFirstUnmetBy plan page kind address)
+pub told : (plan : Plan) (page : List ℕ) (kind : EdgeKind) (address : List ℕ) (answer : Result (Unit {0}) FollowRule) → answer ≡ edge_verdict plan page kind address → (is_ok answer ≡ follows_of plan page kind address) × MatchResult answer (λ nothing. Follows plan page kind address) (IsFirstUnmetBy plan page kind address)
 told plan page kind address answer is = (
   ap is_ok is ∙ verdict-follows plan page kind address,
   subst (λ a. MatchResult a (λ nothing. Follows plan page kind address) (IsFirstUnmetBy plan page kind address)) (sym is) (verdict-means plan page kind address),

@@ -4,8 +4,8 @@ use Rattle.std.proofs.lemmas.Bool.{ne_eqb}
 use Rattle.std.specs.List.{list_any, position}
 use Rattle.std.specs.Option.{option_and_then}
 use Rattle.part_match.specs.Cuts.{is_match, some_end, first_and}
-use Rattle.follow_filters.specs.declared.pattern.Part.{Part}
-use Rattle.follow_filters.specs.declared.pattern.Part.TheVariants as part
+use Rattle.follow_filters.specs.declared.pattern.PatternPart.{PatternPart}
+use Rattle.follow_filters.specs.declared.pattern.PatternPart.TheVariants as part
 use Rattle.follow_filters.specs.ClassValues.{ClassValue}
 use Rattle.follow_filters.specs.Classes.{bracketed_class}
 use Rattle.follow_filters.specs.Wildcards.{is_wildcard}
@@ -13,7 +13,7 @@ use Rattle.follow_filters.specs.Patterns.{is_run, takes, takes_any_case, takes_i
 use Rattle.follow_filters.proofs.ClassLemmas.{behind, behind-more, behind-nothing}
 
 -- what an element matches is what its parts match
-pub is_file_match-parts : (ignores_case : Bool) (element file : List ℕ) (parts : List Part) → read_pattern element ≡ Some parts → is_file_match ignores_case element file ≡ is_match is_run (takes_in ignores_case) parts file
+pub is_file_match-parts : (ignores_case : Bool) (element file : List ℕ) (parts : List PatternPart) → read_pattern element ≡ Some parts → is_file_match ignores_case element file ≡ is_match is_run (takes_in ignores_case) parts file
 unfolding is_file_match
 is_file_match-parts ignores_case element file parts reads = ap (λ read. matches_read ignores_case read file) reads
 
@@ -25,12 +25,12 @@ is_match-map r t f (p ∷ parts) text = λ i.
     if r (f p) then some_end (λ rest. is_match-map r t f parts rest i) text else first_and (λ byte. t (f p) byte) (λ rest. is_match-map r t f parts rest i) text
 
 -- parts of which letters match in either case
-pub any_case-matches : {P : Type 0} (f : P → Part) (list : List P) (exact parts : List Part) (text : List ℕ) (ignores_case : Bool) → ignores_case ≡ true → map f list ≡ exact → exact ≡ parts → is_match (λ p. is_run (f p)) (λ p byte. takes_any_case (f p) byte) list text ≡ is_match is_run (takes_in ignores_case) parts text
+pub any_case-matches : {P : Type 0} (f : P → PatternPart) (list : List P) (exact parts : List PatternPart) (text : List ℕ) (ignores_case : Bool) → ignores_case ≡ true → map f list ≡ exact → exact ≡ parts → is_match (λ p. is_run (f p)) (λ p byte. takes_any_case (f p) byte) list text ≡ is_match is_run (takes_in ignores_case) parts text
 any_case-matches f list exact parts text ignores_case ignored same seen =
     is_match-map is_run takes_any_case f list text ∙ ap (λ ps. is_match is_run takes_any_case ps text) (same ∙ seen) ∙ ap (λ b. is_match is_run (takes_in b) parts text) (sym ignored)
 
 -- parts of which letters match as they are
-pub exact-matches : (exact parts : List Part) (text : List ℕ) (ignores_case : Bool) → ignores_case ≡ false → exact ≡ parts → is_match is_run takes exact text ≡ is_match is_run (takes_in ignores_case) parts text
+pub exact-matches : (exact parts : List PatternPart) (text : List ℕ) (ignores_case : Bool) → ignores_case ≡ false → exact ≡ parts → is_match is_run takes exact text ≡ is_match is_run (takes_in ignores_case) parts text
 exact-matches exact parts text ignores_case counted seen =
     ap (λ ps. is_match is_run takes ps text) seen ∙ ap (λ b. is_match is_run (takes_in b) parts text) (sym counted)
 
@@ -44,14 +44,14 @@ part_unclosed byte text opens stands = rw (opens, sym stands) refl
 pub part_bad : (byte : ℕ) (text : List ℕ) (end : ℕ) → byte ≡ 91 → Some end ≡ position is_end text → is_some (bracketed_class (take end text)) ≡ false → first_part byte text ≡ None
 part_bad byte text end opens stands bad = rw (opens, sym stands) (go (bracketed_class (take end text)) bad)
   where
-    go : (o : Option ClassValue) → is_some o ≡ false → option_map {U = Part × List ℕ} (λ class. (part.Class class, drop (end + 1) text)) o ≡ None
+    go : (o : Option ClassValue) → is_some o ≡ false → option_map {U = PatternPart × List ℕ} (λ class. (part.Class class, drop (end + 1) text)) o ≡ None
     go None none = refl
     go (Some class) none = cc
 
-pub part_good : (byte : ℕ) (text : List ℕ) (end : ℕ) → byte ≡ 91 → Some end ≡ position is_end text → is_some (bracketed_class (take end text)) ≡ true → (p : Part) × (first_part byte text ≡ Some (p, drop (end + 1) text))
+pub part_good : (byte : ℕ) (text : List ℕ) (end : ℕ) → byte ≡ 91 → Some end ≡ position is_end text → is_some (bracketed_class (take end text)) ≡ true → (p : PatternPart) × (first_part byte text ≡ Some (p, drop (end + 1) text))
 part_good byte text end opens stands good = go (bracketed_class (take end text)) refl good
   where
-    go : (o : Option ClassValue) → bracketed_class (take end text) ≡ o → is_some o ≡ true → (p : Part) × (first_part byte text ≡ Some (p, drop (end + 1) text))
+    go : (o : Option ClassValue) → bracketed_class (take end text) ≡ o → is_some o ≡ true → (p : PatternPart) × (first_part byte text ≡ Some (p, drop (end + 1) text))
     go None is some = cc
     go (Some class) is some = (part.Class class, rw (opens, sym stands, is) refl)
 
@@ -59,7 +59,7 @@ pub part_unit : (byte : ℕ) (text : List ℕ) → (byte ≡ 91 → ⊥) → fir
 part_unit byte text other = rw (ne_eqb byte 91 other) refl
 
 -- one more part is read
-pub parts_within-more : (most : ℕ) (front : List Part) (first : ℕ) (rest : List ℕ) (p : Part) (after : List ℕ) → length (first ∷ rest) ≤ most → first_part first rest ≡ Some (p, after) → length after ≤ length rest → (m : ℕ) × (length after ≤ m) × (behind (front ++ p ∷ []) (parts_within m after) ≡ behind front (parts_within most (first ∷ rest)))
+pub parts_within-more : (most : ℕ) (front : List PatternPart) (first : ℕ) (rest : List ℕ) (p : PatternPart) (after : List ℕ) → length (first ∷ rest) ≤ most → first_part first rest ≡ Some (p, after) → length after ≤ length rest → (m : ℕ) × (length after ≤ m) × (behind (front ++ p ∷ []) (parts_within m after) ≡ behind front (parts_within most (first ∷ rest)))
 parts_within-more zero front first rest p after within is shorter = absurd (omega arith)
 parts_within-more (suc m) front first rest p after within is shorter = (
   m,
@@ -73,7 +73,7 @@ unfolding parts_spelled
 parts_spelled-within text = behind-nothing (parts_within (length text) text)
 
 -- one more part is found
-pub parts_within-some : (most : ℕ) (first : ℕ) (rest : List ℕ) (p : Part) (after : List ℕ) → length (first ∷ rest) ≤ most → first_part first rest ≡ Some (p, after) → length after ≤ length rest → (m : ℕ) × (length after ≤ m) × (is_some (parts_within m after) ≡ is_some (parts_within most (first ∷ rest)))
+pub parts_within-some : (most : ℕ) (first : ℕ) (rest : List ℕ) (p : PatternPart) (after : List ℕ) → length (first ∷ rest) ≤ most → first_part first rest ≡ Some (p, after) → length after ≤ length rest → (m : ℕ) × (length after ≤ m) × (is_some (parts_within m after) ≡ is_some (parts_within most (first ∷ rest)))
 parts_within-some zero first rest p after within is shorter = absurd (omega arith)
 parts_within-some (suc m) first rest p after within is shorter = (
   m,
@@ -81,7 +81,7 @@ parts_within-some (suc m) first rest p after within is shorter = (
   mapped (parts_within m after) ∙ ap (λ split. is_some (option_and_then (λ s. option_map (λ ps. s.0 ∷ ps) (parts_within m s.1)) split)) (sym is),
 )
   where
-    mapped : (o : Option (List Part)) → is_some o ≡ is_some (option_map (λ (ps : List Part). p ∷ ps) o)
+    mapped : (o : Option (List PatternPart)) → is_some o ≡ is_some (option_map (λ (ps : List PatternPart). p ∷ ps) o)
     mapped None = refl
     mapped (Some ps) = refl
 

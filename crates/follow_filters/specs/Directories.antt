@@ -2,7 +2,7 @@
 use Rattle.std.specs.Prelude.{◌≡◌, ◌≢◌, ℕ, ◌-◌, Bool, true, false, ◌&&◌, ◌||◌, ◌==◌, List, [], ◌∷◌, ◌++◌, take, length, codes, nat_eq, Option, Some, None, option_map, if◌then◌else◌}
 use Rattle.std.specs.List.{AllZip, starts_with, slice_split, suffix_len}
 use Rattle.part_match.specs.Cuts.{Matches, is_match}
-use Rattle.follow_filters.specs.declared.pattern.Part.{Part}
+use Rattle.follow_filters.specs.declared.pattern.PatternPart.{PatternPart}
 use Rattle.follow_filters.specs.Patterns.{is_run, takes_in, parts_spelled}
 use Rattle.follow_filters.specs.Lists.{read_all}
 
@@ -14,20 +14,20 @@ abbrev pub names_in : List ℕ → List (List ℕ)
 names_in text = slice_split is_slash text
 
 -- the parts that an element's names spell, none if one is bad; no part matches a slash, since no name has one
-abbrev pub read_names : List ℕ → Option (List (List Part))
+abbrev pub read_names : List ℕ → Option (List (List PatternPart))
 read_names element = read_all parts_spelled (names_in element)
 
 -- the directory's names begin with names that the element's match one by one, and more follow: it is a directory of the
 -- element, or below one. The case of letters is ignored or not.
 abbrev pub IsInDirectory : Bool → List ℕ → List ℕ → Type 0
 IsInDirectory ignores_case element directory =
-    (names : List (List Part)) × (front rest : List (List ℕ)) × (read_names element ≡ Some names)
+    (names : List (List PatternPart)) × (front rest : List (List ℕ)) × (read_names element ≡ Some names)
     × (names_in directory ≡ front ++ rest) × (rest ≢ []) × AllZip (Matches is_run (takes_in ignores_case)) names front
 
 -- ---- the same as a test
 
 -- the names match the first of those one by one, and more follow
-abbrev pub begins_with_names : Bool → List (List Part) → List (List ℕ) → Bool
+abbrev pub begins_with_names : Bool → List (List PatternPart) → List (List ℕ) → Bool
 begins_with_names ignores_case [] [] = false
 begins_with_names ignores_case [] (first ∷ others) = true
 begins_with_names ignores_case (name ∷ names) [] = false
@@ -35,7 +35,7 @@ begins_with_names ignores_case (name ∷ names) (first ∷ others) =
     is_match is_run (takes_in ignores_case) name first && begins_with_names ignores_case names others
 
 -- the same of the names that were read
-abbrev pub begins_with_read : Bool → Option (List (List Part)) → List (List ℕ) → Bool
+abbrev pub begins_with_read : Bool → Option (List (List PatternPart)) → List (List ℕ) → Bool
 begins_with_read ignores_case None directory = false
 begins_with_read ignores_case (Some names) directory = begins_with_names ignores_case names directory
 

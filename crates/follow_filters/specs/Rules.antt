@@ -5,8 +5,8 @@ use Rattle.fetcher.specs.declared.edge.EdgeKind.{EdgeKind}
 use Rattle.fetcher.specs.declared.edge.EdgeKind.TheVariants.{Link, Inline, Redirect}
 use Rattle.address.specs.Address.{host_of, dir_of, file_of, query_of, path_query_of, is_robots_file}
 use Rattle.follow_filters.specs.declared.plan.Plan.{Plan}
-use Rattle.follow_filters.specs.declared.rule.Rule.{Rule}
-use Rattle.follow_filters.specs.declared.rule.Rule.TheVariants as rule
+use Rattle.follow_filters.specs.declared.rule.FollowRule.{FollowRule}
+use Rattle.follow_filters.specs.declared.rule.FollowRule.TheVariants as rule
 use Rattle.follow_filters.specs.Plans.{starts}
 use Rattle.follow_filters.specs.Texts.{BeginsWith}
 use Rattle.follow_filters.specs.Domains.{IsInDomain, is_in_domain}
@@ -16,7 +16,7 @@ use Rattle.follow_filters.specs.Patterns.{MatchesFile, is_file_match}
 use Rattle.expressions.specs.Expressions.{IsFoundIn, is_found}
 
 -- the rules, in the order in which they are asked
-abbrev pub rules : List Rule
+abbrev pub rules : List FollowRule
 rules =
     rule.RobotsFile ∷ rule.Host ∷ rule.Parent ∷ rule.Domain ∷ rule.ExcludedDomain
     ∷ rule.NotIncluded ∷ rule.Excluded ∷ rule.NotAccepted ∷ rule.Rejected
@@ -55,7 +55,7 @@ abbrev pub StaysHome : Plan → List ℕ → List ℕ → Type 0
 StaysHome plan page address = HasHostOf address page × (plan.span_requisites ≡ true → HasStartHost plan page)
 
 -- the address, to which an edge of the page leads, meets the rule
-abbrev pub Meets : Rule → Plan → List ℕ → EdgeKind → List ℕ → Type 0
+abbrev pub Meets : FollowRule → Plan → List ℕ → EdgeKind → List ℕ → Type 0
 Meets rule.RobotsFile plan page kind address = path_query_of address ≢ codes "/robots.txt"
 Meets rule.Host plan page kind address = ¬ LeadsAnywhere plan page kind → plan.span_hosts ≡ false → StaysHome plan page address
 Meets rule.Parent plan page kind address =
@@ -77,12 +77,12 @@ Meets rule.ExpressionFound plan page kind address = ¬ Any (λ expression. IsFou
 
 -- the page's edge of the kind that leads to the address is followed: it meets each rule
 abbrev pub Follows : Plan → List ℕ → EdgeKind → List ℕ → Type 0
-Follows plan page kind address = (rule : Rule) → Meets rule plan page kind address
+Follows plan page kind address = (rule : FollowRule) → Meets rule plan page kind address
 
 -- the first rule that the edge doesn't meet: it meets those before it
-abbrev pub IsFirstUnmetBy : Plan → List ℕ → EdgeKind → List ℕ → Rule → Type 0
+abbrev pub IsFirstUnmetBy : Plan → List ℕ → EdgeKind → List ℕ → FollowRule → Type 0
 IsFirstUnmetBy plan page kind address unmet =
-    (before after : List Rule) × (rules ≡ before ++ unmet ∷ after)
+    (before after : List FollowRule) × (rules ≡ before ++ unmet ∷ after)
     × All (λ rule. Meets rule plan page kind address) before × (¬ Meets unmet plan page kind address)
 
 -- the address passes the filters: a link of the start is followed to it
@@ -90,7 +90,7 @@ abbrev pub Passes : Plan → List ℕ → Type 0
 Passes plan address = Follows plan plan.start Link address
 
 -- the first rule that the address doesn't meet, if a link of the start leads to it
-abbrev pub IsFirstUnmet : Plan → List ℕ → Rule → Type 0
+abbrev pub IsFirstUnmet : Plan → List ℕ → FollowRule → Type 0
 IsFirstUnmet plan address unmet = IsFirstUnmetBy plan plan.start Link address unmet
 
 -- ---- the same as tests
@@ -147,7 +147,7 @@ abbrev pub stays_home : Plan → List ℕ → List ℕ → Bool
 stays_home plan page address = has_host_of address page && (not plan.span_requisites || has_start_host plan page)
 
 -- the address, to which an edge of the page leads, meets the rule
-unfoldable pub meets : Rule → Plan → List ℕ → EdgeKind → List ℕ → Bool
+unfoldable pub meets : FollowRule → Plan → List ℕ → EdgeKind → List ℕ → Bool
 meets rule.RobotsFile plan page kind address = not (is_robots_file address)
 meets rule.Host plan page kind address = leads_anywhere plan page kind || (plan.span_hosts || stays_home plan page address)
 meets rule.Parent plan page kind address =
@@ -167,7 +167,7 @@ meets rule.ExpressionMissing plan page kind address = is_absent plan.accept_expr
 meets rule.ExpressionFound plan page kind address = not (finds_some plan.reject_expressions address)
 
 -- the first rule that the edge doesn't meet
-unfoldable pub first_unmet : Plan → List ℕ → EdgeKind → List ℕ → Option Rule
+unfoldable pub first_unmet : Plan → List ℕ → EdgeKind → List ℕ → Option FollowRule
 first_unmet plan page kind address = find (λ r. not (meets r plan page kind address)) rules
 
 -- the page's edge of the kind that leads to the address is followed
@@ -179,16 +179,16 @@ abbrev pub passes_of : Plan → List ℕ → Bool
 passes_of plan address = follows_of plan plan.start Link address
 
 -- nothing if the edge is followed, else the first rule that it doesn't meet
-abbrev pub verdict_from : Option Rule → Result (Unit {0}) Rule
+abbrev pub verdict_from : Option FollowRule → Result (Unit {0}) FollowRule
 verdict_from None = Ok tt
 verdict_from (Some unmet) = Err unmet
 
 -- what `Plan::follows` answers
-abbrev pub edge_verdict : Plan → List ℕ → EdgeKind → List ℕ → Result (Unit {0}) Rule
+abbrev pub edge_verdict : Plan → List ℕ → EdgeKind → List ℕ → Result (Unit {0}) FollowRule
 edge_verdict plan page kind address = verdict_from (first_unmet plan page kind address)
 
 -- what `Plan::passes` answers
-abbrev pub verdict_of : Plan → List ℕ → Result (Unit {0}) Rule
+abbrev pub verdict_of : Plan → List ℕ → Result (Unit {0}) FollowRule
 verdict_of plan address = edge_verdict plan plan.start Link address
 
 -- ---- which pages are kept

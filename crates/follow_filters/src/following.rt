@@ -13,7 +13,7 @@ use crate::elements::Elements;
 use crate::kept_name::KeptName;
 use crate::pattern::Pattern;
 use crate::plan::Plan;
-use crate::rule::{RULES, Rule};
+use crate::rule::{FollowRule, RULES};
 use crate::starts::{has_host_of, is_below};
 use address::Address;
 use expressions::Expression;
@@ -143,7 +143,7 @@ impl Plan {
 
     #[tactic(auto, unfolding(crate::specs::Rules::meets))]
     fn meets_included(&self, address: &Address) -> bool
-        ensures { (page : List ℕ) (kind : EdgeKind) → result ≡ meets Rule.NotIncluded self.now page kind address.now }
+        ensures { (page : List ℕ) (kind : EdgeKind) → result ≡ meets FollowRule.NotIncluded self.now page kind address.now }
     {
         self.include_dirs.is_empty()
             || is_in_some_directory(&self.include_dirs, address.dir(), self.ignore_case)
@@ -151,7 +151,7 @@ impl Plan {
 
     #[tactic(auto, unfolding(crate::specs::Rules::meets))]
     fn meets_accept(&self, address: &Address) -> bool
-        ensures { (page : List ℕ) (kind : EdgeKind) → result ≡ meets Rule.NotAccepted self.now page kind address.now }
+        ensures { (page : List ℕ) (kind : EdgeKind) → result ≡ meets FollowRule.NotAccepted self.now page kind address.now }
     {
         let file = address.file();
         is_exempt(file)
@@ -161,7 +161,7 @@ impl Plan {
 
     #[tactic(auto, unfolding(crate::specs::Rules::meets))]
     fn meets_reject(&self, address: &Address) -> bool
-        ensures { (page : List ℕ) (kind : EdgeKind) → result ≡ meets Rule.Rejected self.now page kind address.now }
+        ensures { (page : List ℕ) (kind : EdgeKind) → result ≡ meets FollowRule.Rejected self.now page kind address.now }
     {
         let file = address.file();
         is_exempt(file) || !matches_some(&self.reject, file, self.ignore_case)
@@ -169,44 +169,44 @@ impl Plan {
 
     #[tactic(auto, unfolding(crate::specs::Rules::meets))]
     fn meets_expression(&self, address: &Address) -> bool
-        ensures { (page : List ℕ) (kind : EdgeKind) → result ≡ meets Rule.ExpressionMissing self.now page kind address.now }
+        ensures { (page : List ℕ) (kind : EdgeKind) → result ≡ meets FollowRule.ExpressionMissing self.now page kind address.now }
     {
         self.accept_expressions.is_empty() || finds_some(&self.accept_expressions, address)
     }
 
     // Whether the address, to which an edge of the page leads, meets the rule.
     #[tactic(auto, unfolding(crate::specs::Rules::meets))]
-    fn meets(&self, rule: Rule, page: &Address, kind: EdgeKind, address: &Address) -> bool
+    fn meets(&self, rule: FollowRule, page: &Address, kind: EdgeKind, address: &Address) -> bool
         ensures { result ≡ meets rule self.now page.now kind address.now }
     {
         match rule {
-            Rule::RobotsFile => !address.is_robots_file(),
-            Rule::Host => self.leads_anywhere(page, kind) || self.meets_host(page, address),
-            Rule::Parent => self.leads_anywhere(page, kind) || self.meets_parent(address),
-            Rule::Domain => self.leads_anywhere(page, kind) || self.meets_domains(address),
-            Rule::ExcludedDomain => {
+            FollowRule::RobotsFile => !address.is_robots_file(),
+            FollowRule::Host => self.leads_anywhere(page, kind) || self.meets_host(page, address),
+            FollowRule::Parent => self.leads_anywhere(page, kind) || self.meets_parent(address),
+            FollowRule::Domain => self.leads_anywhere(page, kind) || self.meets_domains(address),
+            FollowRule::ExcludedDomain => {
                 self.leads_anywhere(page, kind)
                     || !is_in_some_domain(&self.exclude_domains, address.host())
             }
-            Rule::NotIncluded => self.meets_included(address),
-            Rule::Excluded => {
+            FollowRule::NotIncluded => self.meets_included(address),
+            FollowRule::Excluded => {
                 !is_in_some_directory(&self.exclude_dirs, address.dir(), self.ignore_case)
             }
-            Rule::NotAccepted => self.meets_accept(address),
-            Rule::Rejected => self.meets_reject(address),
-            Rule::ExpressionMissing => self.meets_expression(address),
-            Rule::ExpressionFound => !finds_some(&self.reject_expressions, address),
+            FollowRule::NotAccepted => self.meets_accept(address),
+            FollowRule::Rejected => self.meets_reject(address),
+            FollowRule::ExpressionMissing => self.meets_expression(address),
+            FollowRule::ExpressionFound => !finds_some(&self.reject_expressions, address),
         }
     }
 
     // The first rule of the list that the edge doesn't meet.
     fn first_unmet(
         &self,
-        rules: &[Rule],
+        rules: &[FollowRule],
         page: &Address,
         kind: EdgeKind,
         address: &Address,
-    ) -> Option<Rule>
+    ) -> Option<FollowRule>
         ensures { result ≡ find (λ r. not (meets r self.now page.now kind address.now)) rules.now }
     {
         for rule in rules {
@@ -220,7 +220,12 @@ impl Plan {
     /// Whether the page's edge of the kind that leads to the address is followed, or the first rule
     /// that it doesn't meet. Takes no memory.
     #[tactic(auto, unfolding(crate::specs::Rules::first_unmet))]
-    pub fn follows(&self, page: &Address, kind: EdgeKind, address: &Address) -> Result<(), Rule>
+    pub fn follows(
+        &self,
+        page: &Address,
+        kind: EdgeKind,
+        address: &Address,
+    ) -> Result<(), FollowRule>
         ensures value { result ≡ edge_verdict self.now page.now kind address.now }
         ensures follows { is_ok result ≡ follows_of self.now page.now kind address.now }
         ensures means { MatchResult result (λ _. Follows self.now page.now kind address.now)
@@ -235,7 +240,7 @@ impl Plan {
     /// Whether the address may be followed from a link of the start, or the first rule that it doesn't
     /// meet. Of a plan of one start that spans neither hosts nor requisites each edge of a page on its
     /// host is followed exactly if this answers so. Takes no memory.
-    pub fn passes(&self, address: &Address) -> Result<(), Rule>
+    pub fn passes(&self, address: &Address) -> Result<(), FollowRule>
         ensures value { result ≡ verdict_of self.now address.now }
         ensures passes { is_ok result ≡ passes_of self.now address.now }
         ensures means { MatchResult result (λ _. Passes self.now address.now)

@@ -9,7 +9,7 @@ pub use crate::limit::{Limit, MAX_LEVEL};
 pub use crate::lists::Element;
 pub use crate::pattern::Pattern;
 pub use crate::plan::{MAX_PER_HOST, MAX_URLS, Plan};
-pub use crate::rule::Rule;
+pub use crate::rule::FollowRule;
 pub use crate::starts::Starts;
 pub use expressions::{Expression, ExpressionFault};
 

@@ -2,7 +2,7 @@
 ghost use Rattle.std.specs.Prelude.{◌≡◌, map, IfOk};
 
 use crate::elements::ElementFault;
-use crate::pattern::Part;
+use crate::pattern::PatternPart;
 use crate::spelling::{read_parts, spelled_parts};
 use part_match::Text;
 use std::alloc::{AllocError, Global};
@@ -11,7 +11,7 @@ use std::marker::Model;
 // A part of which letters match in either case.
 #[derive(Drop)]
 struct AnyCase {
-    part: Part,
+    part: PatternPart,
 }
 
 impl part_match::Part for AnyCase {
@@ -22,16 +22,16 @@ impl part_match::Part for AnyCase {
     ghost takes = { λ any byte. takes_any_case any.part byte };
 
     fn is_run(&self) -> bool {
-        matches!(self.part, Part::Run)
+        matches!(self.part, PatternPart::Run)
     }
 
     #[tactic(auto, unfolding(crate::specs::Patterns::takes_any_case))]
     fn takes(&self, byte: u8) -> bool {
         match &self.part {
-            Part::Run => false,
-            Part::Any => true,
-            Part::Byte(wanted) => byte.to_ascii_lowercase() == wanted.to_ascii_lowercase(),
-            Part::Class(class) => class.takes_any_case(byte),
+            PatternPart::Run => false,
+            PatternPart::Any => true,
+            PatternPart::Byte(wanted) => byte.to_ascii_lowercase() == wanted.to_ascii_lowercase(),
+            PatternPart::Class(class) => class.takes_any_case(byte),
         }
     }
 }
@@ -40,16 +40,16 @@ impl part_match::Part for AnyCase {
 /// letters counts or not.
 #[derive(Drop)]
 pub(crate) struct Parts {
-    exact: Vec<Part>,
+    exact: Vec<PatternPart>,
     any_case: Vec<AnyCase>,
 }
 
 // Contracts see the parts as a list.
 impl Model for Parts {
     ghost use Rattle.std.specs.Prelude.{◌≡◌, List, map};
-    ghost use Rattle.follow_filters.specs.declared.pattern.Part.{Part};
+    ghost use Rattle.follow_filters.specs.declared.pattern.PatternPart.{PatternPart};
 
-    ghost Value = { List Part };
+    ghost Value = { List PatternPart };
 
     ghost view = { λ p. p.exact.items };
 
@@ -81,7 +81,11 @@ impl Parts {
     }
 
     // These parts, which were read twice.
-    fn of(alloc: Global, exact: Vec<Part>, again: Vec<Part>) -> Result<Parts, AllocError>
+    fn of(
+        alloc: Global,
+        exact: Vec<PatternPart>,
+        again: Vec<PatternPart>,
+    ) -> Result<Parts, AllocError>
         requires { again.items ≡ exact.items }
         ensures { IfOk result (λ parts. parts ≡ exact.items) }
     {
@@ -101,7 +105,7 @@ impl Parts {
     }
 }
 
-fn in_any_case(alloc: Global, parts: Vec<Part>) -> Result<Vec<AnyCase>, AllocError>
+fn in_any_case(alloc: Global, parts: Vec<PatternPart>) -> Result<Vec<AnyCase>, AllocError>
     ensures { IfOk result (λ any_case. map (λ any. any.part) any_case.items ≡ parts.items) }
 {
     let mut any_case = Vec::new(alloc);

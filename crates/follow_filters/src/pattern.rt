@@ -10,7 +10,7 @@ use std::marker::Model;
 
 /// A part of a pattern.
 #[derive(Drop)]
-pub enum Part {
+pub enum PatternPart {
     /// `*`: any run of bytes.
     Run,
     /// `?`: any byte.
@@ -21,7 +21,7 @@ pub enum Part {
     Class(Class),
 }
 
-impl part_match::Part for Part {
+impl part_match::Part for PatternPart {
     ghost use Rattle.follow_filters.specs.Patterns.{is_run, takes};
 
     ghost is_run = { is_run };
@@ -29,16 +29,16 @@ impl part_match::Part for Part {
     ghost takes = { takes };
 
     fn is_run(&self) -> bool {
-        matches!(self, Part::Run)
+        matches!(self, PatternPart::Run)
     }
 
     #[tactic(auto, unfolding(crate::specs::Patterns::takes))]
     fn takes(&self, byte: u8) -> bool {
         match self {
-            Part::Run => false,
-            Part::Any => true,
-            Part::Byte(wanted) => byte == *wanted,
-            Part::Class(class) => class.takes(byte),
+            PatternPart::Run => false,
+            PatternPart::Any => true,
+            PatternPart::Byte(wanted) => byte == *wanted,
+            PatternPart::Class(class) => class.takes(byte),
         }
     }
 }
@@ -127,18 +127,18 @@ impl Pattern {
     }
 }
 
-impl Part {
+impl PatternPart {
     ghost use Rattle.std.specs.Prelude.{◌≡◌};
     ghost use Rattle.follow_filters.specs.Patterns.{unit_of};
 
     // A byte that is outside of a class.
-    pub(crate) fn of(byte: u8) -> Part
+    pub(crate) fn of(byte: u8) -> PatternPart
         ensures { result ≡ unit_of byte }
     {
         match byte {
-            b'*' => Part::Run,
-            b'?' => Part::Any,
-            _ => Part::Byte(byte),
+            b'*' => PatternPart::Run,
+            b'?' => PatternPart::Any,
+            _ => PatternPart::Byte(byte),
         }
     }
 }

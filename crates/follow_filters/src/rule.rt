@@ -3,7 +3,7 @@
 /// Why an edge of a page is not followed. The rules are asked in this order, and the first that its
 /// target does not meet is named.
 #[derive(Clone, Copy, PartialEq, Eq, Debug)]
-pub enum Rule {
+pub enum FollowRule {
     /// The path with its query is `/robots.txt`.
     RobotsFile,
     /// The host isn't the page's, and hosts aren't spanned.
@@ -29,16 +29,16 @@ pub enum Rule {
 }
 
 /// The rules, in the order in which they are asked.
-pub(crate) const RULES: [Rule; 11] = [
-    Rule::RobotsFile,
-    Rule::Host,
-    Rule::Parent,
-    Rule::Domain,
-    Rule::ExcludedDomain,
-    Rule::NotIncluded,
-    Rule::Excluded,
-    Rule::NotAccepted,
-    Rule::Rejected,
-    Rule::ExpressionMissing,
-    Rule::ExpressionFound,
+pub(crate) const RULES: [FollowRule; 11] = [
+    FollowRule::RobotsFile,
+    FollowRule::Host,
+    FollowRule::Parent,
+    FollowRule::Domain,
+    FollowRule::ExcludedDomain,
+    FollowRule::NotIncluded,
+    FollowRule::Excluded,
+    FollowRule::NotAccepted,
+    FollowRule::Rejected,
+    FollowRule::ExpressionMissing,
+    FollowRule::ExpressionFound,
 ];

@@ -1,17 +1,17 @@
 //! How patterns are written (GNU Wget manual, section Types of Files).
 ghost use Rattle.std.specs.Prelude.{◌≡◌, ◌≤◌, ◌∷◌, map, length, Some, IfOk, IfSome, ◌<◌, None, is_some, position, MatchOption, MatchResult};
 ghost use Rattle.follow_filters.specs.Elements.{IsFaultOf};
-ghost use Rattle.follow_filters.specs.declared.pattern.Part.TheVariants as part;
+ghost use Rattle.follow_filters.specs.declared.pattern.PatternPart.TheVariants as part;
 ghost use Rattle.follow_filters.specs.Patterns.{is_end, first_part, parts_spelled, read_pattern};
 
 use crate::class::Class;
 use crate::elements::ElementFault;
-use crate::pattern::Part;
+use crate::pattern::PatternPart;
 use crate::wildcards::has_wildcard;
 use std::alloc::{AllocError, Global};
 
 /// The parts of an element: those that it spells, or if none of its bytes is a wildcard, any run and its bytes.
-pub(crate) fn read_parts(alloc: Global, element: &[u8]) -> Result<Vec<Part>, ElementFault>
+pub(crate) fn read_parts(alloc: Global, element: &[u8]) -> Result<Vec<PatternPart>, ElementFault>
     ensures { MatchResult result (λ v. read_pattern element.now ≡ Some v.items) (IsFaultOf (read_pattern element.now)) }
 {
     if has_wildcard(element) {
@@ -22,19 +22,19 @@ pub(crate) fn read_parts(alloc: Global, element: &[u8]) -> Result<Vec<Part>, Ele
 }
 
 // The parts of a suffix.
-fn suffix_parts(alloc: Global, suffix: &[u8]) -> Result<Vec<Part>, AllocError>
+fn suffix_parts(alloc: Global, suffix: &[u8]) -> Result<Vec<PatternPart>, AllocError>
     ensures { IfOk result (λ v. v.items ≡ part.Run ∷ map (λ b. part.Byte b) suffix.now) }
 {
     let mut parts = Vec::new(alloc);
-    parts.push(Part::Run)?;
+    parts.push(PatternPart::Run)?;
     for byte in suffix {
-        parts.push(Part::Byte(*byte))?;
+        parts.push(PatternPart::Byte(*byte))?;
     }
     Ok(parts)
 }
 
 /// The parts that a text spells.
-pub(crate) fn spelled_parts(alloc: Global, text: &[u8]) -> Result<Vec<Part>, ElementFault>
+pub(crate) fn spelled_parts(alloc: Global, text: &[u8]) -> Result<Vec<PatternPart>, ElementFault>
     ensures { MatchResult result (λ v. parts_spelled text.now ≡ Some v.items) (IsFaultOf (parts_spelled text.now)) }
 {
     let mut parts = Vec::new(alloc);
@@ -52,17 +52,17 @@ fn split_part<'a>(
     alloc: Global,
     first: u8,
     text: &'a [u8],
-) -> Result<(Part, &'a [u8]), ElementFault>
+) -> Result<(PatternPart, &'a [u8]), ElementFault>
     ensures { MatchResult result (λ x. (first_part first text.now ≡ Some (x.0, x.1.now)) × (length x.1.now ≤ length text.now))
         (IsFaultOf (first_part first text.now)) }
 {
     if first != b'[' {
-        return Ok((Part::of(first), text));
+        return Ok((PatternPart::of(first), text));
     }
     match class_end(text) {
         Some(end) => {
             let class = Class::read(alloc, &text[..end])?;
-            Ok((Part::Class(class), &text[end + 1..]))
+            Ok((PatternPart::Class(class), &text[end + 1..]))
         }
         None => Err(ElementFault::Bad),
     }

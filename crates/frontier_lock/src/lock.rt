@@ -27,7 +27,7 @@ pub enum Done {
 }
 
 /// A permit that is given up.
-pub enum Held {
+pub enum HeldPermit {
     /// That of a page.
     Page(Permit),
     /// That of an origin's robots rules.
@@ -54,7 +54,7 @@ pub struct Unanswered {
 #[derive(Drop)]
 pub struct FrontierLock<'a> {
     core: Mutex<Frontier>,
-    moved: Condvar,
+    work_available: Condvar,
     // How many addresses wait, for observers. They take no lock.
     waiting: Option<&'a AtomicUsize>,
 }
@@ -118,14 +118,14 @@ fn hand_over(core: &mut Frontier, done: Done) -> Result<(), Refused>
 }
 
 // Gives a permit up if there is one, and stops.
-fn give_up(core: &mut Frontier, held: Option<Held>, cause: Cause)
+fn give_up(core: &mut Frontier, held: Option<HeldPermit>, cause: Cause)
     ensures one { MakesAtMostOne core.old core.new }
     ensures given { GivesPermitUp core.old held cause core.new }
 {
     match held {
         None => core.stop(cause),
-        Some(Held::Page(permit)) => core.abandon(permit, cause),
-        Some(Held::Rules(permit)) => core.abandon_robots(permit, cause),
+        Some(HeldPermit::Page(permit)) => core.abandon(permit, cause),
+        Some(HeldPermit::Rules(permit)) => core.abandon_robots(permit, cause),
     }
 }
 
@@ -259,7 +259,7 @@ impl<'a> FrontierLock<'a> {
     pub fn watched(core: Frontier, waiting: Option<&'a AtomicUsize>) -> Self {
         FrontierLock {
             core: Mutex::new(core),
-            moved: Condvar::new(),
+            work_available: Condvar::new(),
             waiting,
         }
     }
@@ -280,7 +280,7 @@ impl<'a> FrontierLock<'a> {
         let mut core = self.core.lock(rt);
         for _ in rt.forever() {
             match take(&mut core, worker) {
-                Ok(Work::Busy) => core = self.moved.wait(rt, core),
+                Ok(Work::Busy) => core = self.work_available.wait(rt, core),
                 other => {
                     self.note_waiting(&core);
                     return other;
@@ -319,7 +319,7 @@ impl<'a> FrontierLock<'a> {
             told
         };
         if wakes {
-            self.moved.notify_all();
+            self.work_available.notify_all();
         }
         answer
     }
@@ -345,14 +345,14 @@ impl<'a> FrontierLock<'a> {
             told
         };
         if wakes {
-            self.moved.notify_all();
+            self.work_available.notify_all();
         }
         answer
     }
 
     /// Gives up the permit if there is one, like `Frontier::abandon` and `Frontier::abandon_robots`, and stops the
     /// frontier if nothing stopped it yet. Takes no memory.
-    pub fn halt<R: Wait>(&self, rt: &R, held: Option<Held>, cause: Cause) {
+    pub fn halt<R: Wait>(&self, rt: &R, held: Option<HeldPermit>, cause: Cause) {
         self.step(
             rt,
             |core, (held, cause)| give_up(core, held, cause),
@@ -374,7 +374,7 @@ impl<'a> FrontierLock<'a> {
             made
         };
         if wakes {
-            self.moved.notify_all();
+            self.work_available.notify_all();
         }
         answer
     }
@@ -390,7 +390,7 @@ impl<'a> FrontierLock<'a> {
     pub fn into_frontier(self) -> Frontier {
         let FrontierLock {
             core,
-            moved: _,
+            work_available: _,
             waiting: _,
         } = self;
         core.into_inner()

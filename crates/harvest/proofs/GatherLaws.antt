@@ -15,11 +15,11 @@ use Rattle.fetcher.specs.declared.outcome.Outcome.{Outcome}
 use Rattle.frontier_core.specs.Tables.{Text, keys, IsOnce}
 use Rattle.frontier_core.specs.Machine.{State, Slot, OriginRules, outcome_in, known_rules_in}
 use Rattle.frontier_core.specs.Readers.{HeldEntry, entry_of, record_of, ruled_of, item_entry}
-use Rattle.frontier_core.specs.declared.condition.Condition.{Condition}
+use Rattle.frontier_core.specs.declared.condition.AddressState.{AddressState}
 use Rattle.address.specs.declared.address.Address.{Address}
 use Rattle.std.specs.Borrow.{Bor}
 use Rattle.frontier_core.proofs.RouteLaws.{contains_tail, contains_cases}
-use Rattle.harvest.specs.declared.entry.Entry.{Entry}
+use Rattle.harvest.specs.declared.entry.HarvestEntry.{HarvestEntry}
 use Rattle.harvest.specs.Entries.{Seen, seen_of, seen_in, said_by, recorded_addresses, ruled_origins}
 
 -- what is held and what is to be said of it
@@ -32,7 +32,7 @@ seen_is s = seen_all s.entries
 
 -- what a frontier lends of a held address
 abbrev pub Lent : Type 0
-Lent = Bor Address × ℕ × Condition
+Lent = Bor Address × ℕ × AddressState
 
 -- what is to be said of it
 abbrev pub seen_lent : Lent → Seen
@@ -51,7 +51,7 @@ pub seen_held : (s : State) (held : List Lent) → map item_entry held ≡ map e
 seen_held s held all = seen_each held ∙ ap (λ (x : List HeldEntry). map seen_of x) all ∙ seen_is s
 
 -- the addresses of entries, by what they say
-named_by : (entries : List Entry) → map (λ entry. entry.address) entries ≡ map (λ (seen : Seen). seen.0) (map said_by entries)
+named_by : (entries : List HarvestEntry) → map (λ entry. entry.address) entries ≡ map (λ (seen : Seen). seen.0) (map said_by entries)
 named_by [] = refl
 named_by (entry ∷ entries) = ap (λ (rest : List Text). entry.address ∷ rest) (named_by entries)
 
@@ -64,11 +64,11 @@ keys_by [] = refl
 keys_by (entry ∷ entries) = ap (λ (rest : List Text). entry.0 ∷ rest) (keys_by entries)
 
 -- entries have the addresses of that of which they say what is to be said
-pub named_alike : (entries : List Entry) (held : List Lent) → map said_by entries ≡ map seen_lent held → map lent_address held ≡ map (λ entry. entry.address) entries
+pub named_alike : (entries : List HarvestEntry) (held : List Lent) → map said_by entries ≡ map seen_lent held → map lent_address held ≡ map (λ entry. entry.address) entries
 named_alike entries held said = named_held held ∙ sym (ap (λ (x : List Seen). map (λ (seen : Seen). seen.0) x) said) ∙ sym (named_by entries)
 
 -- one more entry
-pub said_more : (entries : List Entry) (entry : Entry) (held : List Lent) (i : ℕ) (d : Lent) → i < length held → map said_by entries ≡ map seen_lent (take i held)
+pub said_more : (entries : List HarvestEntry) (entry : HarvestEntry) (held : List Lent) (i : ℕ) (d : Lent) → i < length held → map said_by entries ≡ map seen_lent (take i held)
     → said_by entry ≡ seen_lent (get_or held i d) → map said_by (entries ++ entry ∷ []) ≡ map seen_lent (take (i + 1) held)
 said_more entries entry held i d within so is =
     map-append said_by entries (entry ∷ [])

@@ -4,16 +4,16 @@ use Rattle.fetcher.specs.declared.outcome.Outcome.{Outcome}
 use Rattle.frontier_core.specs.Tables.{Text}
 use Rattle.frontier_core.specs.Machine.{State}
 use Rattle.frontier_core.specs.Readers.{HeldEntry, Recorded, Ruled, entry_of}
-use Rattle.frontier_core.specs.declared.condition.Condition.{Condition}
-use Rattle.frontier_core.specs.declared.condition.Condition.TheVariants.{Parked, Waiting, Out, Answered, Refused}
-use Rattle.harvest.specs.declared.entry.Entry.{Entry}
+use Rattle.frontier_core.specs.declared.condition.AddressState.{AddressState}
+use Rattle.frontier_core.specs.declared.condition.AddressState.TheVariants.{Parked, Waiting, Out, Answered, Refused}
+use Rattle.harvest.specs.declared.entry.HarvestEntry.{HarvestEntry}
 
 -- an address with its label, and whether robots rules refuse it
 abbrev pub Seen : Type 0
 Seen = Text × ℕ × Bool
 
 -- robots rules refuse it (RFC 9309, section 2.2.2)
-abbrev pub is_refused : Condition → Bool
+abbrev pub is_refused : AddressState → Bool
 is_refused Parked = false
 is_refused Waiting = false
 is_refused (Out holder) = false
@@ -29,7 +29,7 @@ abbrev pub seen_in : State → List Seen
 seen_in s = map (λ entry. seen_of (entry_of entry)) s.entries
 
 -- what an entry says
-abbrev pub said_by : Entry → Seen
+abbrev pub said_by : HarvestEntry → Seen
 said_by entry = (entry.address, entry.depth, entry.refused)
 
 -- the addresses of records

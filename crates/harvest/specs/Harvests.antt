@@ -5,7 +5,7 @@ use Rattle.frontier_core.specs.Tables.{Text}
 use Rattle.frontier_core.specs.Machine.{State}
 use Rattle.frontier_core.specs.Traced.{Traced}
 use Rattle.frontier_core.specs.Readers.{Recorded, Ruled}
-use Rattle.harvest.specs.declared.entry.Entry.{Entry}
+use Rattle.harvest.specs.declared.entry.HarvestEntry.{HarvestEntry}
 use Rattle.frontier_core.specs.declared.event.Event.{Event}
 
 -- a harvest: the plan by which it went, the state in which its frontier was left and the lines of what happened to it;
@@ -15,7 +15,7 @@ pub record Harvested (B : Type 0) : Type 0 where
   pub plan : Option Plan
   pub state : State
   pub trace : List Event
-  pub entries : List Entry
+  pub entries : List HarvestEntry
   pub records : List Recorded
   pub rules : List Ruled
   pub kept : List Text

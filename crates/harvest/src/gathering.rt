@@ -7,12 +7,12 @@ ghost use Rattle.frontier_core.specs.Readers.{entry_of, record_of, ruled_of, ite
 ghost use Rattle.address.specs.AddressOrder.{IsAscending};
 ghost use Rattle.harvest.specs.Entries.{is_refused, seen_of, seen_in, said_by, recorded_addresses, ruled_origins, IsPlaceOf};
 
-use crate::entry::Entry;
+use crate::entry::HarvestEntry;
 use crate::named::sort_by_name;
 use crate::page::KeptPage;
 use address::{Address, Origin};
 use fetcher::Outcome;
-use frontier_core::{Condition, Entries, Frontier, Records, Rules};
+use frontier_core::{AddressState, Entries, Frontier, Records, Rules};
 use robots_rules::RuleSet;
 use std::alloc::{AllocError, Global};
 
@@ -88,25 +88,25 @@ fn place_of(records: &[(Address, Outcome)], address: &Address, near: usize) -> O
 }
 
 // Whether robots rules refuse an address.
-fn is_refused(condition: Condition) -> bool
+fn is_refused(condition: AddressState) -> bool
     ensures { result ≡ is_refused condition }
 {
-    matches!(condition, Condition::Refused)
+    matches!(condition, AddressState::Refused)
 }
 
 // The entry of an address, whose outcome is looked for at this place in the records first.
 fn entry_of(
     address: &Address,
     depth: u32,
-    condition: Condition,
+    condition: AddressState,
     records: &[(Address, Outcome)],
     near: usize,
-) -> Result<Entry, AllocError>
+) -> Result<HarvestEntry, AllocError>
     requires { IsAscending (recorded_addresses records.now) }
     ensures said { IfOk result (λ entry. said_by entry ≡ seen_of (address.now, depth, condition)) }
     ensures place { IfOk result (λ entry. IsPlaceOf records.now entry.address entry.answer) }
 {
-    Ok(Entry {
+    Ok(HarvestEntry {
         address: address.try_clone()?,
         depth,
         refused: is_refused(condition),
@@ -118,7 +118,7 @@ fn entry_of(
 fn list_held<'a>(
     alloc: Global,
     entries: Entries<'a>,
-) -> Result<Vec<(&'a Address, u32, Condition)>, AllocError>
+) -> Result<Vec<(&'a Address, u32, AddressState)>, AllocError>
     ensures { IfOk result (λ held. map item_entry held.items ≡ entries.entry) }
 {
     let mut held = Vec::new(alloc);
@@ -132,9 +132,9 @@ fn list_held<'a>(
 // The entries of what is held, in its order, each with the place of its outcome.
 fn entries_of(
     alloc: Global,
-    held: &[(&Address, u32, Condition)],
+    held: &[(&Address, u32, AddressState)],
     records: &[(Address, Outcome)],
-) -> Result<Vec<Entry>, AllocError>
+) -> Result<Vec<HarvestEntry>, AllocError>
     requires { IsAscending (recorded_addresses records.now) }
     ensures same { IfOk result (λ entries. map said_by entries.items ≡ map (λ one. seen_of (item_entry one)) held.now) }
     ensures places { IfOk result (λ entries. All (λ entry. IsPlaceOf records.now entry.address entry.answer) entries.items) }
@@ -157,7 +157,7 @@ pub fn gather_entries(
     alloc: Global,
     frontier: &Frontier,
     records: &[(Address, Outcome)],
-) -> Result<Vec<Entry>, AllocError>
+) -> Result<Vec<HarvestEntry>, AllocError>
     requires { IsAscending (recorded_addresses records.now) }
     ensures ascending { IfOk result (λ entries. IsAscending (map (λ entry. entry.address) entries.items)) }
     ensures same { IfOk result (λ entries. IsPermutation (seen_in frontier.now.state) (map said_by entries.items)) }
@@ -178,7 +178,7 @@ pub struct Parted<B> {
 /// What a frontier holds, in address order, and in origin order.
 #[derive(Drop)]
 pub struct Held {
-    pub entries: Vec<Entry>,
+    pub entries: Vec<HarvestEntry>,
     pub records: Vec<(Address, Outcome)>,
     pub rules: Vec<(Origin, RuleSet)>,
 }

@@ -11,7 +11,7 @@ ghost use Rattle.harvest.specs.Gathered.{AreEntries, AreRecords, AreRules, ArePa
 ghost use Rattle.harvest.specs.Pages.{IsKept};
 ghost use Rattle.harvest.specs.Gathered.{IsHarvestOf};
 
-use crate::entry::Entry;
+use crate::entry::HarvestEntry;
 use crate::gathering::{Held, Parted, gather_all};
 use crate::page::KeptPage;
 use address::{Address, Origin};
@@ -26,7 +26,7 @@ use std::marker::Model;
 /// short; then its trace has no line.
 pub struct Harvest<B> {
     frontier: Option<Box<Frontier>>,
-    entries: Vec<Entry>,
+    entries: Vec<HarvestEntry>,
     records: Vec<(Address, Outcome)>,
     rules: Vec<(Origin, RuleSet)>,
     kept: Vec<Address>,
@@ -116,7 +116,7 @@ impl<B: Drop> Harvest<B> {
 
     /// The addresses that were found, in address order, each with its depth, and with the place of its outcome in
     /// [`Harvest::records`]. Takes no memory.
-    pub fn entries(&self) -> &[Entry]
+    pub fn entries(&self) -> &[HarvestEntry]
         ensures value { result.now ≡ self.now.entries }
         ensures entries { AreEntries self.now }
     {

@@ -4,7 +4,7 @@
 //! address, `Pages` what is kept, `Order` the order. The crate requests nothing. Its tests are in `retrieval_tests`.
 #![tactic(auto)]
 
-pub use crate::entry::Entry;
+pub use crate::entry::HarvestEntry;
 pub use crate::harvest::Harvest;
 pub use crate::named::Named;
 pub use crate::near_order::order_nearly;

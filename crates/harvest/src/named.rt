@@ -7,7 +7,7 @@ use crate::near_order::order_nearly;
 use crate::page::KeptPage;
 use address::{Address, Origin};
 use fetcher::Outcome;
-use frontier_core::Condition;
+use frontier_core::AddressState;
 use robots_rules::RuleSet;
 use std::alloc::AllocError;
 
@@ -21,7 +21,7 @@ pub trait Named {
         ensures { result.now ≡ text_of self.now };
 }
 
-impl<'a> Named for (&'a Address, u32, Condition) {
+impl<'a> Named for (&'a Address, u32, AddressState) {
     ghost text_of = { λ held. held.0.now };
 
     fn name(&self) -> &str {

@@ -13,7 +13,7 @@ use local_tree::{
     BodyChange, DiskFolder, Folder, FolderFault, NamesParts, Shelf, WriteFault, put_changed_parts,
     put_parts,
 };
-use part_keeper::{Part, PartsDir, Standing};
+use part_keeper::{KeptPart, PartsDir, Standing};
 use record_journal::SavedFile;
 use std::alloc::{AllocError, Global};
 use std::fs::Files;
@@ -23,14 +23,14 @@ use std::net::Net;
 use std::sync::Wait;
 use std::thread::Threads;
 use streams::{Close, Lock};
-use tcp_connect::Kept;
+use tcp_connect::KeptConnections;
 
 /// The folder of a run's pages. Before one is put the connections that wait are ended, since a file needs a descriptor too. Bodies
 /// in memory are made ready in threads; those in parts are renamed.
-pub struct Disk<'a, R: Net + Files + Wait> {
+pub struct PageFolder<'a, R: Net + Files + Wait> {
     pub(crate) inner: DiskFolder<'a, R>,
     pub(crate) rt: &'a R,
-    pub(crate) kept: &'a Kept<R::Stream>,
+    pub(crate) kept: &'a KeptConnections<R::Stream>,
     pub(crate) crew: &'a PartThreads<'a, R>,
     pub(crate) parts: &'a PartsDir<R::File>,
     pub(crate) alloc: Global,
@@ -42,9 +42,9 @@ pub struct Disk<'a, R: Net + Files + Wait> {
 }
 
 // Written by hand: a user that drops one proves a call, and nothing about its fields.
-impl<'a, R: Net + Files + Wait> Drop for Disk<'a, R> {
+impl<'a, R: Net + Files + Wait> Drop for PageFolder<'a, R> {
     fn drop(self) {
-        let Disk {
+        let PageFolder {
             inner: _inner,
             rt: _rt,
             kept: _kept,
@@ -67,7 +67,7 @@ fn take_back_from<R: Files>(
     folder: &mut DiskFolder<'_, R>,
     name: &str,
     page: &Address,
-    part: &Part,
+    part: &KeptPart,
 )
 where
     R::File: Close + Lock,
@@ -90,7 +90,7 @@ fn unread_line(alloc: Global, name: &str) -> Result<String, AllocError> {
     )
 }
 
-impl<'a, R: Net + Files + Wait> Disk<'a, R>
+impl<'a, R: Net + Files + Wait> PageFolder<'a, R>
 where
     R::File: Close + Lock,
 {
@@ -129,7 +129,7 @@ where
     }
 
     // Has those of these parts ready to get their names that were given others early.
-    fn take_back(&mut self, names: &[String], harvest: &Harvest<Part>)
+    fn take_back(&mut self, names: &[String], harvest: &Harvest<KeptPart>)
         requires { length names.now ≡ length harvest.now.kept }
         ensures { self.new.inner ≡ self.old.inner }
     {
@@ -153,17 +153,17 @@ where
     }
 
     // Has files of earlier runs give way to these names. What stays is in the way of a file.
-    fn make_way(&self, names: &[String], harvest: &Harvest<Part>) {
+    fn make_way(&self, names: &[String], harvest: &Harvest<KeptPart>) {
         let _ = self.index.make_way(self.rt, self.failures, names, harvest);
     }
 
     // Notes for the index that all these pages were put.
-    fn note_put(&self, names: &[String], harvest: &Harvest<Part>) {
+    fn note_put(&self, names: &[String], harvest: &Harvest<KeptPart>) {
         let _ = self.index.note_put(self.rt, names, harvest);
     }
 
     // Keeps why the file of this name couldn't be put, whose bytes were to be this part: it was lost, or it got no name.
-    fn note_part(&self, name: &str, part: &Part) {
+    fn note_part(&self, name: &str, part: &KeptPart) {
         match part.standing {
             Standing::Lost => {
                 if let Some(error) = self.parts.reason(self.rt, part) {
@@ -177,7 +177,7 @@ where
     }
 }
 
-impl<'a, R: Net + Files + Wait + Threads> Folder for Disk<'a, R>
+impl<'a, R: Net + Files + Wait + Threads> Folder for PageFolder<'a, R>
 where
     R::File: Close + Lock,
 {
@@ -212,13 +212,13 @@ where
     }
 }
 
-impl<'a, R: Net + Files + Wait> NamesParts for Disk<'a, R>
+impl<'a, R: Net + Files + Wait> NamesParts for PageFolder<'a, R>
 where
     R::File: Close + Lock,
 {
     ghost failed = { λ d. d.inner.failed };
 
-    fn put_part(&mut self, name: &str, part: &Part) -> Result<(), FolderFault> {
+    fn put_part(&mut self, name: &str, part: &KeptPart) -> Result<(), FolderFault> {
         let put = self.inner.put_kept(name, part);
         if put.is_err() {
             self.note_part(name, part);
@@ -230,7 +230,7 @@ where
         &mut self,
         place: usize,
         name: &str,
-        part: &Part,
+        part: &KeptPart,
         change: &C,
     ) -> Result<bool, FolderFault> {
         let put = self.inner.put_changed(place, name, part, change);
@@ -243,7 +243,7 @@ where
     }
 }
 
-impl<'a, R: Net + Files + Wait + Threads> Shelf<Part> for Disk<'a, R>
+impl<'a, R: Net + Files + Wait + Threads> Shelf<KeptPart> for PageFolder<'a, R>
 where
     R::File: Close + Lock,
 {
@@ -252,11 +252,15 @@ where
     // Of what is on the disk nothing is known.
     ghost holds = { λ part body. ⊤ };
 
-    fn put_kept(&mut self, name: &str, kept: &Part) -> Result<(), FolderFault> {
+    fn put_kept(&mut self, name: &str, kept: &KeptPart) -> Result<(), FolderFault> {
         self.put_part(name, kept)
     }
 
-    fn put_harvest(&mut self, names: &[String], harvest: &Harvest<Part>) -> Result<(), WriteFault> {
+    fn put_harvest(
+        &mut self,
+        names: &[String],
+        harvest: &Harvest<KeptPart>,
+    ) -> Result<(), WriteFault> {
         self.take_parts();
         self.take_back(names, harvest);
         self.make_way(names, harvest);
@@ -272,7 +276,7 @@ where
         alloc: Global,
         place: usize,
         name: &str,
-        kept: &Part,
+        kept: &KeptPart,
         change: &C,
     ) -> Result<bool, FolderFault> {
         let put = self
@@ -290,7 +294,7 @@ where
         &mut self,
         _alloc: Global,
         names: &[String],
-        harvest: &Harvest<Part>,
+        harvest: &Harvest<KeptPart>,
         change: &C,
     ) -> Result<bool, WriteFault> {
         self.take_parts();
@@ -312,7 +316,7 @@ where
 pub struct Saved<'a, R: Net + Wait + Eprint + Files> {
     pub(crate) inner: SavedFile<'a, R, R>,
     pub(crate) rt: &'a R,
-    pub(crate) kept: &'a Kept<R::Stream>,
+    pub(crate) kept: &'a KeptConnections<R::Stream>,
     pub(crate) failures: &'a SharedFailures,
     pub(crate) path: String,
     // Whether it is kept that it can't be put.

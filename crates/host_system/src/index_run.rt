@@ -2,7 +2,7 @@
 ghost use Rattle.std.specs.Prelude.{◌≡◌, ◌||◌, ◌++◌, ◌∷◌, [], Err, IfOk, not, string_bytes, true};
 ghost use Rattle.host_system.specs.declared.index_run.BeginFault.TheVariants.{Unfit};
 
-use crate::journal::{JOURNAL, Journal, Left, is_nothing, left_at};
+use crate::journal::{JOURNAL, LeftJournal, SharedJournal, is_nothing, left_at};
 use crate::shared_failures::SharedFailures;
 use address::Address;
 use earlier_pages::EarlierPages;
@@ -12,14 +12,14 @@ use mirror_upkeep::{
     first_line, gone, in_way, is_anothers, is_sure, joined, named_pages, places_by_name,
 };
 use options::{Order, Upkeep};
-use part_keeper::Part;
+use part_keeper::KeptPart;
 use std::alloc::{AllocError, Global};
 use std::fs::{File, Files};
 use std::io::{ErrorKind, Write};
 use std::sync::{Arc, Mutex, Wait};
 use std::{io, mem};
 use streams::{Close, Lock, ReadInputFault, read_input};
-use tcp_fetcher::{Earlier, PageNote};
+use tcp_fetcher::{Earlier, IndexNote};
 
 /// What the index is called, directly below the folder. No page has a name that begins so.
 pub(crate) const INDEX: &str = ".wgetr%index";
@@ -97,7 +97,7 @@ pub struct IndexRun<F: Drop> {
     begun: Mutex<Option<Arc<Begun>>>,
     // The pages of this run with the names that they have early, perhaps empty ones, if an index is kept.
     pages: Mutex<Vec<Entry>>,
-    journal: Mutex<Journal<F>>,
+    journal: Mutex<SharedJournal<F>>,
     // None before all files were put.
     put: Mutex<Option<Put>>,
 }
@@ -152,7 +152,7 @@ fn take_put(put: &mut Option<Put>) -> Option<Put> {
 }
 
 // This is the journal from now on.
-fn set_journal<F: Drop>(held: &mut Journal<F>, journal: Journal<F>) {
+fn set_journal<F: Drop>(held: &mut SharedJournal<F>, journal: SharedJournal<F>) {
     *held = journal;
 }
 
@@ -243,9 +243,9 @@ fn index_of<R: Files + Wait>(
 }
 
 // The entry of a noted page, which has this name.
-fn entry_of(alloc: Global, note: PageNote, name: &str) -> Result<Entry, AllocError> {
+fn entry_of(alloc: Global, note: IndexNote, name: &str) -> Result<Entry, AllocError> {
     let name = String::from_str(alloc, name)?;
-    let PageNote {
+    let IndexNote {
         at,
         len,
         digest,
@@ -348,7 +348,7 @@ impl<F: Drop> IndexRun<F> {
             alloc,
             begun: Mutex::new(None),
             pages: Mutex::new(Vec::new(alloc)),
-            journal: Mutex::new(Journal::none(alloc)),
+            journal: Mutex::new(SharedJournal::none(alloc)),
             put: Mutex::new(None),
         }
     }
@@ -359,17 +359,17 @@ impl<F: Drop> IndexRun<F> {
         rt: &R,
         failures: &SharedFailures,
         path: &str,
-        left: Left<F>,
+        left: LeftJournal<F>,
         upkeep: Upkeep,
     ) -> Result<Usable<F>, BeginFault>
         ensures { result ≡ Err Unfit → upkeep.continues ≡ true }
     {
         let why = match left {
-            Left::Nothing => return Ok(Usable::Pages(MirrorIndex::new(self.alloc), None)),
-            Left::Pages(pages, file) => return Ok(Usable::Pages(pages, Some(file))),
-            Left::Busy if !upkeep.continues => return Ok(Usable::Theirs),
-            Left::Busy => String::from_str(self.alloc, "is of a run that is at work")?,
-            Left::Unfit(why) => why,
+            LeftJournal::Nothing => return Ok(Usable::Pages(MirrorIndex::new(self.alloc), None)),
+            LeftJournal::Pages(pages, file) => return Ok(Usable::Pages(pages, Some(file))),
+            LeftJournal::Busy if !upkeep.continues => return Ok(Usable::Theirs),
+            LeftJournal::Busy => String::from_str(self.alloc, "is of a run that is at work")?,
+            LeftJournal::Unfit(why) => why,
         };
         if upkeep.continues {
             tell(
@@ -427,11 +427,11 @@ impl<F: Drop> IndexRun<F> {
             )?;
         }
         let journal = if takes_nothing(order.upkeep) {
-            Journal::left_alone(self.alloc, path, left)
+            SharedJournal::left_alone(self.alloc, path, left)
         } else if order.upkeep.continues {
-            Journal::of(path, first, left).going_on(self.alloc, &pages)?
+            SharedJournal::of(path, first, left).going_on(self.alloc, &pages)?
         } else {
-            Journal::of(path, first, left)
+            SharedJournal::of(path, first, left)
         };
         set_journal(&mut self.journal.lock(rt), journal);
         Ok(pages)
@@ -519,7 +519,7 @@ impl<F: Drop> IndexRun<F> {
         &self,
         rt: &R,
         own: &str,
-        note: PageNote,
+        note: IndexNote,
         name: Option<&str>,
     ) -> io::Result<()>
     where
@@ -543,7 +543,7 @@ impl<F: Drop> IndexRun<F> {
         rt: &R,
         failures: &SharedFailures,
         own: &str,
-        note: PageNote,
+        note: IndexNote,
         name: Option<&str>,
     )
     where
@@ -560,7 +560,7 @@ impl<F: Drop> IndexRun<F> {
         rt: &R,
         failures: &SharedFailures,
         names: &[String],
-        harvest: &Harvest<Part>,
+        harvest: &Harvest<KeptPart>,
     ) -> Result<(), AllocError> {
         let Some(begun) = shared(&mut self.begun.lock(rt)) else {
             return Ok(());
@@ -580,7 +580,7 @@ impl<F: Drop> IndexRun<F> {
         &self,
         rt: &R,
         names: &[String],
-        harvest: &Harvest<Part>,
+        harvest: &Harvest<KeptPart>,
     ) -> Result<(), AllocError> {
         let Some(begun) = shared(&mut self.begun.lock(rt)) else {
             return Ok(());

@@ -12,7 +12,7 @@ use streams::{Close, Lock, ReadInputFault, read_input};
 pub(crate) const JOURNAL: &str = ".wgetr%journal";
 
 /// What an earlier run left at the place of a journal.
-pub(crate) enum Left<F> {
+pub(crate) enum LeftJournal<F> {
     /// Nothing.
     Nothing,
     /// These pages, and the journal, which this run holds.
@@ -24,8 +24,8 @@ pub(crate) enum Left<F> {
 }
 
 // Nothing that can be gone on with, for this reason.
-fn unfit<F>(alloc: Global, why: &str) -> Result<Left<F>, AllocError> {
-    Ok(Left::Unfit(String::from_str(alloc, why)?))
+fn unfit<F>(alloc: Global, why: &str) -> Result<LeftJournal<F>, AllocError> {
+    Ok(LeftJournal::Unfit(String::from_str(alloc, why)?))
 }
 
 // The pages of an open journal that begins with this line, and which this run holds.
@@ -33,7 +33,7 @@ fn pages_in<F: io::Read + Drop>(
     alloc: Global,
     file: F,
     first: &[u8],
-) -> Result<Left<F>, AllocError> {
+) -> Result<LeftJournal<F>, AllocError> {
     let mut file = file;
     let bytes = match read_input(alloc, &mut file, MAX_INDEX) {
         Ok(bytes) => bytes,
@@ -42,8 +42,8 @@ fn pages_in<F: io::Read + Drop>(
         Err(ReadInputFault::Memory) => return Err(AllocError),
     };
     match read_journal(alloc, bytes.as_slice(), first) {
-        Ok(pages) => Ok(Left::Pages(pages, file)),
-        Err(fault) => Ok(Left::Unfit(reason(alloc, fault)?)),
+        Ok(pages) => Ok(LeftJournal::Pages(pages, file)),
+        Err(fault) => Ok(LeftJournal::Unfit(reason(alloc, fault)?)),
     }
 }
 
@@ -58,13 +58,13 @@ pub(crate) fn left_at<R: Files>(
     alloc: Global,
     path: &str,
     first: &[u8],
-) -> Result<Left<R::File>, AllocError>
+) -> Result<LeftJournal<R::File>, AllocError>
 where
     R::File: Lock,
 {
     match rt.symlink_metadata(path) {
         Ok(found) if found.is_file() => {}
-        Err(e) if is_nothing(&e) => return Ok(Left::Nothing),
+        Err(e) if is_nothing(&e) => return Ok(LeftJournal::Nothing),
         _ => return unfit(alloc, "isn't a file"),
     }
     let Ok(file) = File::open(rt, path) else {
@@ -72,14 +72,14 @@ where
     };
     // A system without such locks has one run at a time there.
     if !file.hold().unwrap_or(true) {
-        return Ok(Left::Busy);
+        return Ok(LeftJournal::Busy);
     }
     pages_in(alloc, file, first)
 }
 
 /// The journal of a run, to which its workers add under a lock.
 #[derive(Drop)]
-pub(crate) struct Journal<F: Drop> {
+pub(crate) struct SharedJournal<F: Drop> {
     path: String,
     // Whether pages are added.
     is_open: bool,
@@ -106,10 +106,10 @@ where
     Ok(file)
 }
 
-impl<F: Drop> Journal<F> {
+impl<F: Drop> SharedJournal<F> {
     /// None is kept. Takes no memory.
-    pub(crate) fn none(alloc: Global) -> Journal<F> {
-        Journal {
+    pub(crate) fn none(alloc: Global) -> SharedJournal<F> {
+        SharedJournal {
             path: String::new(alloc),
             is_open: false,
             front: Vec::new(alloc),
@@ -120,8 +120,8 @@ impl<F: Drop> Journal<F> {
     }
 
     /// One at this path that begins with this line, in place of the one that was left there, which is held until then.
-    pub(crate) fn of(path: String, first: Vec<u8>, left: Option<F>) -> Journal<F> {
-        Journal {
+    pub(crate) fn of(path: String, first: Vec<u8>, left: Option<F>) -> SharedJournal<F> {
+        SharedJournal {
             path,
             is_open: true,
             front: first,
@@ -132,8 +132,8 @@ impl<F: Drop> Journal<F> {
     }
 
     /// The one that was left at this path, to which nothing is added. It is held, and removed if the run ends well.
-    pub(crate) fn left_alone(alloc: Global, path: String, left: Option<F>) -> Journal<F> {
-        Journal {
+    pub(crate) fn left_alone(alloc: Global, path: String, left: Option<F>) -> SharedJournal<F> {
+        SharedJournal {
             path,
             is_open: false,
             front: Vec::new(alloc),
@@ -148,7 +148,7 @@ impl<F: Drop> Journal<F> {
         self,
         alloc: Global,
         pages: &MirrorIndex,
-    ) -> Result<Journal<F>, AllocError> {
+    ) -> Result<SharedJournal<F>, AllocError> {
         let mut journal = self;
         for entry in pages.entries() {
             push_entry(alloc, &mut journal.front, entry)?;

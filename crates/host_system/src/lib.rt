@@ -20,7 +20,7 @@ mod start_file;
 
 pub use crate::asking::Asking;
 pub use crate::cookie_file::jar_of;
-pub use crate::disk::{Disk, Saved};
+pub use crate::disk::{PageFolder, Saved};
 pub use crate::early_run::EarlyRun;
 pub use crate::index_run::IndexRun;
 pub use crate::limited_lookups::limit_lookups;

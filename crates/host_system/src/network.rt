@@ -1,6 +1,6 @@
 //! What a live run has of the system: fetchers over TCP, and folders and records on the disk.
 use crate::asking::Asking;
-use crate::disk::{Disk, Saved};
+use crate::disk::{PageFolder, Saved};
 use crate::early_run::EarlyRun;
 use crate::index_run::{BeginFault, IndexRun};
 use crate::part_threads::PartThreads;
@@ -10,7 +10,7 @@ use early_names::EarlyRules;
 use live_system::{FetcherSettings, HoldFault, System};
 use local_tree::DiskFolder;
 use options::Order;
-use part_keeper::{Part, PartsDir};
+use part_keeper::{KeptPart, PartsDir};
 use progress::ProgressLine;
 use record_journal::{Journaled, Pen, SaveFault, SavedFile, Saving};
 use requests::Jar;
@@ -22,7 +22,7 @@ use std::sync::atomic::AtomicUsize;
 use std::thread::Threads;
 use std::time::Clock;
 use streams::{Close, Lock, ReadInputFault};
-use tcp_connect::{Hosts, Kept};
+use tcp_connect::{Hosts, KeptConnections};
 use tcp_fetcher::{OverTcp, PartsOverTcp};
 
 /// The network and the disk, by the program's handle.
@@ -31,7 +31,7 @@ pub struct HostSystem<'a, R: Net + Wait + Files + Clock + Eprint> {
     rt: &'a R,
     alloc: Global,
     hosts: &'a Hosts,
-    kept: &'a Kept<R::Stream>,
+    kept: &'a KeptConnections<R::Stream>,
     progress: &'a ProgressLine<'a, R>,
     saving: &'a Saving<R>,
     crew: &'a PartThreads<'a, R>,
@@ -53,7 +53,7 @@ impl<'a, R: Net + Wait + Files + Clock + Eprint> HostSystem<'a, R> {
         rt: &'a R,
         alloc: Global,
         hosts: &'a Hosts,
-        kept: &'a Kept<R::Stream>,
+        kept: &'a KeptConnections<R::Stream>,
         progress: &'a ProgressLine<'a, R>,
         saving: &'a Saving<R>,
         crew: &'a PartThreads<'a, R>,
@@ -180,13 +180,13 @@ where
     ghost use Rattle.response_reader.specs.Limits.{limits_of};
     ghost use Rattle.local_tree.specs.Folders.{opened_at};
 
-    type Body = Part;
+    type Body = KeptPart;
 
     type Fetcher = PartsAsking<'a, R>;
 
     type Recorder = Asking<'a, R>;
 
-    type Folder = Disk<'a, R>;
+    type Folder = PageFolder<'a, R>;
 
     type Record = Saved<'a, R>;
 
@@ -236,10 +236,10 @@ where
         Some(self.progress.waiting())
     }
 
-    fn folder(&self, path: &str, keeps_originals: bool) -> Result<Disk<'a, R>, AllocError> {
+    fn folder(&self, path: &str, keeps_originals: bool) -> Result<PageFolder<'a, R>, AllocError> {
         self.parts.set_folder(self.rt, path)?;
         match DiskFolder::new(self.rt, self.alloc, path) {
-            Ok(inner) => Ok(Disk {
+            Ok(inner) => Ok(PageFolder {
                 inner,
                 rt: self.rt,
                 kept: self.kept,

@@ -6,7 +6,7 @@ use address::{Address, Origin};
 use early_names::{EarlyRules, is_early};
 use fetcher::{Answer, Ask, Fetcher};
 use local_tree::DiskFolder;
-use part_keeper::{Part, PartsDir, Standing};
+use part_keeper::{KeptPart, PartsDir, Standing};
 use robots_rules::RuleSet;
 use std::alloc::{AllocError, Global};
 use std::fs::Files;
@@ -14,7 +14,7 @@ use std::net::Net;
 use std::sync::{Arc, Wait};
 use std::time::Clock;
 use streams::{Close, Lock};
-use tcp_fetcher::{PageNote, PartsOverTcp};
+use tcp_fetcher::{IndexNote, PartsOverTcp};
 
 /// Asks over TCP, has bodies kept in parts, of which it names those that may be named early, shows on the terminal what results,
 /// and keeps why a connection was lost.
@@ -62,7 +62,7 @@ where
     ghost use Rattle.host_system.specs.EarlyParts.{HasWhole, NamedIfWhole};
 
     // The name that a part may have early, which no other page has: it is claimed.
-    fn claim(&self, at: &Address, part: &Part) -> Option<String>
+    fn claim(&self, at: &Address, part: &KeptPart) -> Option<String>
         ensures { IfSome result (λ name. HasWhole part.now) }
     {
         let Some(rules) = &self.rules else {
@@ -103,7 +103,7 @@ where
     }
 
     // Gives a part this name. Whether it has it then.
-    fn give_name(&mut self, name: &str, part: &Part) -> bool
+    fn give_name(&mut self, name: &str, part: &KeptPart) -> bool
         ensures { self.new.inner ≡ self.old.inner }
     {
         let Ok(dir) = self.parts.path(self.rt) else {
@@ -118,7 +118,7 @@ where
     }
 
     // A page's part, which has its name from then on if nothing is in its way, and what was noted of the page.
-    fn named(&mut self, at: &Address, part: Part, note: Option<PageNote>) -> Part
+    fn named(&mut self, at: &Address, part: KeptPart, note: Option<IndexNote>) -> KeptPart
         ensures kind { result.kind ≡ part.kind }
         ensures len { result.len ≡ part.len }
         ensures received { result.is_received ≡ part.is_received }
@@ -134,7 +134,7 @@ where
             return part;
         }
         self.note_kept(note, Some(name.as_str()));
-        Part {
+        KeptPart {
             standing: Standing::Named,
             ..part
         }
@@ -148,12 +148,12 @@ where
     }
 
     // What is noted of a page and its answer, the last one. If there is no memory for it, the next run requests the page, too.
-    fn note_of(&self, at: &Address, answer: &Answer<Part>) -> Option<PageNote> {
+    fn note_of(&self, at: &Address, answer: &Answer<KeptPart>) -> Option<IndexNote> {
         self.inner.note(at, answer).unwrap_or(None)
     }
 
     // Notes a page that has this name early, if it has one.
-    fn note_kept(&self, note: Option<PageNote>, name: Option<&str>) {
+    fn note_kept(&self, note: Option<IndexNote>, name: Option<&str>) {
         let (Some(note), Ok(own)) = (note, self.parts.path(self.rt)) else {
             return;
         };
@@ -175,7 +175,7 @@ where
 {
     ghost use Rattle.tcp_fetcher.specs.PartsFetching.{MayAnswerIn, MayRuleIn, PartsSite, parts_site};
 
-    type Body = Part;
+    type Body = KeptPart;
 
     ghost Site = { PartsSite };
 
@@ -187,7 +187,7 @@ where
 
     ghost log = { λ f. f.inner.asks };
 
-    fn ask(&mut self, at: &Address) -> Result<Answer<Part>, AllocError> {
+    fn ask(&mut self, at: &Address) -> Result<Answer<KeptPart>, AllocError> {
         let answer = self.inner.ask(at)?;
         self.note_page(at);
         let note = self.note_of(at, &answer);

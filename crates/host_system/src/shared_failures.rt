@@ -5,7 +5,7 @@ use std::alloc::{AllocError, Global};
 use std::io::{Error, Write};
 use std::sync::{Mutex, Wait};
 use streams::write_text;
-use tcp_connect::Kept;
+use tcp_connect::KeptConnections;
 
 /// Why something failed in a run, for a person. All its workers share it.
 pub struct SharedFailures {
@@ -82,7 +82,7 @@ impl SharedFailures {
     }
 
     /// The servers to which no connection is kept any more are to be reported to a person, too.
-    pub fn say_unasked<R: Wait, S: Drop>(&self, rt: &R, kept: &Kept<S>) {
+    pub fn say_unasked<R: Wait, S: Drop>(&self, rt: &R, kept: &KeptConnections<S>) {
         if let Ok(text) = kept.unasked_text(rt) {
             self.say(rt, text.as_str());
         }

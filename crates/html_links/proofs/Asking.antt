@@ -9,11 +9,11 @@ use Rattle.std.specs.List.{flat_map, list_any}
 use Rattle.html_links.specs.Pieces.{Attribute, Tag, Source}
 use Rattle.html_links.specs.Pieces.Source.{FromTag, FromSheet}
 use Rattle.html_links.specs.Values.{value_text_of, written, value_of}
-use Rattle.html_links.specs.declared.table.Form.{Form}
+use Rattle.html_links.specs.declared.table.LinkForm.{LinkForm}
 use Rattle.html_links.specs.declared.links.LinkKind.{LinkKind}
 use Rattle.html_links.specs.declared.links.LinkPlace.{LinkPlace}
 use Rattle.html_links.specs.declared.links.LinkPlace.TheVariants as place
-use Rattle.html_links.specs.declared.table.Form.TheVariants as form
+use Rattle.html_links.specs.declared.table.LinkForm.TheVariants as form
 use Rattle.html_links.specs.Links.{Link, Links, Row, link_table, kind_in, related, pressed, refreshed, link_with, link_by, row_links, table_links, styling, style_links, styling_links, links_of, source_links, base_of, is_nofollow, first_base, any_nofollow, with_tags}
 use Rattle.html_links.specs.Asked.{is_asked_element, is_asked_attribute, is_styling, is_wanted, asked_attributes, given, asked}
 use Rattle.html_links.specs.declared.asked.Wanted.{Wanted}
@@ -49,7 +49,7 @@ abbrev kept : Tag → Tag
 kept tag = record { name = tag.name; attributes = kept_of tag.attributes }
 
 -- where a value leads to is said by attributes that a rule names
-kind_kept : (all : List Attribute) (f : Form) → kind_in (kept_of all) f ≡ kind_in all f
+kind_kept : (all : List Attribute) (f : LinkForm) → kind_in (kept_of all) f ≡ kind_in all f
 kind_kept all form.Link = refl
 kind_kept all form.Shown = refl
 kind_kept all form.Related = ap related (value_asked (codes "rel") all refl)
@@ -187,7 +187,7 @@ plain tag h =
     record { links = rw (rows_nothing tag link_table tests.third) refl; base = rw tests.first refl; nofollow = rw tests.second refl }
 
 -- a tag without attributes says nothing
-kind_alone : (p : LinkPlace) (f : Form) (k : Option LinkKind) → link_with p f k None ≡ []
+kind_alone : (p : LinkPlace) (f : LinkForm) (k : Option LinkKind) → link_with p f k None ≡ []
 kind_alone p f None = refl
 kind_alone p f (Some k) = refl
 

@@ -18,7 +18,7 @@ use Rattle.html_links.specs.declared.context.Scope.{Scope}
 use Rattle.html_links.specs.declared.lexer.Ended.{Ended}
 use Rattle.html_links.specs.declared.lexer.Ended.TheVariants as ends
 use Rattle.html_links.specs.declared.lexer.Lexer.{Lexer}
-use Rattle.html_links.specs.declared.lexer.Mode.TheVariants.{BeforeValue}
+use Rattle.html_links.specs.declared.lexer.TokenizerState.TheVariants.{BeforeValue}
 use Rattle.html_links.specs.declared.raw_element.RawElement.{RawElement}
 
 -- ---- the first of a name counts

@@ -3,8 +3,8 @@ use Rattle.std.proofs.Common.{◌≡◌, ◌<◌, ℕ, Bool, List, [], length, m
 use Rattle.std.proofs.lemmas.List.{get_or-map, length-map}
 use Rattle.std.specs.List.{range_with_len}
 use Rattle.html_links.specs.Links.{Row, link_table, row}
-use Rattle.html_links.specs.declared.table.Form.TheVariants as form
-use Rattle.html_links.specs.declared.table.Row as declared
+use Rattle.html_links.specs.declared.table.LinkForm.TheVariants as form
+use Rattle.html_links.specs.declared.table.LinkRow as declared
 use Rattle.html_links.specs.inner.Rows.{named}
 
 -- the row at that place

@@ -13,16 +13,16 @@ use Rattle.html_links.specs.declared.asked.Wanted.TheVariants as wanted
 use Rattle.html_links.specs.declared.links.LinkKind.{LinkKind}
 use Rattle.html_links.specs.declared.links.LinkPlace.{LinkPlace}
 use Rattle.html_links.specs.declared.links.LinkPlace.TheVariants as place
-use Rattle.html_links.specs.declared.table.Form.{Form}
-use Rattle.html_links.specs.declared.table.Form.TheVariants as form
+use Rattle.html_links.specs.declared.table.LinkForm.{LinkForm}
+use Rattle.html_links.specs.declared.table.LinkForm.TheVariants as form
 use Rattle.html_links.specs.declared.lexer.Lexer.{Lexer}
-use Rattle.html_links.specs.declared.lexer.Mode.TheVariants.{BeforeValue}
+use Rattle.html_links.specs.declared.lexer.TokenizerState.TheVariants.{BeforeValue}
 use Rattle.html_links.specs.declared.awaiting.ValueForm.{ValueForm}
 use Rattle.html_links.specs.declared.awaiting.ValueForm.TheVariants.{Address, Base, Set, Refresh, Sheet, Mention}
 use Rattle.html_links.specs.declared.lexer.awaiting.TheConstants.{MOST_BEFORE}
 
 -- how a value of that form of the link table is read
-abbrev pub read_as : Form → ValueForm
+abbrev pub read_as : LinkForm → ValueForm
 read_as form.Link = Address
 read_as form.Shown = Address
 read_as form.Related = Address
@@ -44,7 +44,7 @@ row_of element attribute (r ∷ others) =
     else row_of element attribute others
 
 -- how the value is read, if the row's form leads anywhere
-abbrev pub read_if : Form → Option LinkKind → Option ValueForm
+abbrev pub read_if : LinkForm → Option LinkKind → Option ValueForm
 read_if f None = None
 read_if f (Some kind) = Some (read_as f)
 

@@ -9,7 +9,7 @@ ghost use Rattle.html_links.specs.Awaiting.{form_at, is_base, read_as, row_of};
 use crate::asked::AskedName;
 use crate::bytes::is_name;
 use crate::links::LinkPlace;
-use crate::table::{Form, rows_for, table};
+use crate::table::{LinkForm, rows_for, table};
 use crate::tag::{Attribute, written};
 
 /// How links are found in a value.
@@ -29,18 +29,18 @@ pub enum ValueForm {
     Mention,
 }
 
-impl Form {
+impl LinkForm {
     pub(crate) fn read_as(self) -> ValueForm
         ensures { result ≡ read_as self }
     {
         match self {
-            Form::Link => ValueForm::Address,
-            Form::Shown => ValueForm::Address,
-            Form::Related => ValueForm::Address,
-            Form::Button => ValueForm::Address,
-            Form::Set => ValueForm::Set,
-            Form::Refresh => ValueForm::Refresh,
-            Form::Mention => ValueForm::Mention,
+            LinkForm::Link => ValueForm::Address,
+            LinkForm::Shown => ValueForm::Address,
+            LinkForm::Related => ValueForm::Address,
+            LinkForm::Button => ValueForm::Address,
+            LinkForm::Set => ValueForm::Set,
+            LinkForm::Refresh => ValueForm::Refresh,
+            LinkForm::Mention => ValueForm::Mention,
         }
     }
 }
@@ -61,7 +61,7 @@ impl LinkPlace {
 }
 
 /// The form of the table's row for that element and that attribute.
-pub(crate) fn row_form(element: &[u8], attribute: AskedName) -> Option<Form>
+pub(crate) fn row_form(element: &[u8], attribute: AskedName) -> Option<LinkForm>
     ensures { result ≡ option_map (λ r. r.form) (row_of element.now (asked_name attribute) link_table) }
 {
     let rows = rows_for(element);
@@ -93,17 +93,17 @@ fn has(before: &[Attribute], name: AskedName) -> bool
 
 /// Whether it is decided what a value of that form leads to in a tag of which these attributes came, whatever follows; otherwise
 /// what follows decides alone.
-pub(crate) fn is_decided(before: &[Attribute], form: Form) -> bool
+pub(crate) fn is_decided(before: &[Attribute], form: LinkForm) -> bool
     ensures decided { result ≡ true → (later : List NameAndValue) → kind_in (before.now ++ later) form ≡ kind_in before.now form }
     ensures open { result ≡ false → (later : List NameAndValue) → kind_in (before.now ++ later) form ≡ kind_in later form }
 {
     match form {
-        Form::Link => true,
-        Form::Shown => true,
-        Form::Set => true,
-        Form::Mention => true,
-        Form::Related => has(before, AskedName::Rel),
-        Form::Button => has(before, AskedName::OfType),
-        Form::Refresh => has(before, AskedName::HttpEquiv),
+        LinkForm::Link => true,
+        LinkForm::Shown => true,
+        LinkForm::Set => true,
+        LinkForm::Mention => true,
+        LinkForm::Related => has(before, AskedName::Rel),
+        LinkForm::Button => has(before, AskedName::OfType),
+        LinkForm::Refresh => has(before, AskedName::HttpEquiv),
     }
 }

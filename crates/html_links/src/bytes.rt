@@ -55,22 +55,22 @@ pub(crate) fn is_quote(byte: u8) -> bool
 
 /// A part of a tag or a character reference that a class of bytes ends.
 #[derive(Clone, Copy)]
-pub(crate) enum Span {
+pub(crate) enum TagSpan {
     TagName,
     AttributeName,
     BareValue,
     ReferenceName,
 }
 
-impl Span {
+impl TagSpan {
     fn ends_at(self, byte: u8) -> bool
         ensures { result ≡ ends_span self byte }
     {
         match self {
-            Span::TagName => ends_tag_name(byte),
-            Span::AttributeName => ends_attribute_name(byte),
-            Span::BareValue => ends_bare_value(byte),
-            Span::ReferenceName => ends_name(byte),
+            TagSpan::TagName => ends_tag_name(byte),
+            TagSpan::AttributeName => ends_attribute_name(byte),
+            TagSpan::BareValue => ends_bare_value(byte),
+            TagSpan::ReferenceName => ends_name(byte),
         }
     }
 

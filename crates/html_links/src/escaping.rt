@@ -5,7 +5,7 @@ ghost use Rattle.html_links.specs.References.{referenced};
 ghost use Rattle.html_links.specs.Pieces.{is_quote, ends_bare_value};
 ghost use Rattle.html_links.specs.Markup.{value_at, valued};
 
-use crate::memory::Memory;
+use crate::memory::OutOfMemory;
 use std::alloc::{AllocError, Global};
 
 // Puts down what is written for a byte.
@@ -31,8 +31,8 @@ fn push_escaped_byte(value: &mut Vec<u8>, byte: u8) -> Result<(), AllocError>
 /// one, and it ends where it is to end.
 ///
 /// # Errors
-/// `Memory` if a growth is refused.
-pub fn escape(alloc: Global, text: &[u8]) -> Result<Vec<u8>, Memory>
+/// `OutOfMemory` if a growth is refused.
+pub fn escape(alloc: Global, text: &[u8]) -> Result<Vec<u8>, OutOfMemory>
     ensures value { IfOk result (λ value. value.items ≡ escaped text.now) }
     ensures text { IfOk result (λ value. referenced value.items ≡ text.now) }
     // in quotes, and without them before a byte that ends such a value

@@ -7,7 +7,7 @@ ghost use Rattle.html_links.specs.inner.Rows.{named};
 
 use crate::bytes::{from_byte, split_at_byte};
 use crate::links::is_word;
-use crate::table::{ROWS, Row, table};
+use crate::table::{LinkRow, ROWS, table};
 
 /// Whether what follows the element in a name, `/` and an attribute or nothing, names that attribute.
 fn has_attribute(rest: &[u8], attribute: &[u8]) -> bool
@@ -20,7 +20,7 @@ fn has_attribute(rest: &[u8], attribute: &[u8]) -> bool
 }
 
 /// Whether a name of a list, `element` or `element/attribute`, names a row whose links are followed.
-fn names(name: &[u8], row: &Row) -> bool
+fn names(name: &[u8], row: &LinkRow) -> bool
     ensures { result ≡ names name.now (named row.now) }
 {
     let (element, rest) = split_at_byte(b'/', name);
@@ -30,7 +30,7 @@ fn names(name: &[u8], row: &Row) -> bool
 }
 
 /// Whether a list names a row.
-fn lists(list: &[u8], row: &Row) -> bool
+fn lists(list: &[u8], row: &LinkRow) -> bool
     ensures { result ≡ lists list.now (named row.now) }
 {
     list.split(|b| *b == b',').any(|name| names(name, row))
@@ -57,7 +57,7 @@ fn is_empty(list: &[u8]) -> bool
 }
 
 /// Whether a name names one of these rows.
-fn names_any(name: &[u8], rows: &[Row]) -> bool
+fn names_any(name: &[u8], rows: &[LinkRow]) -> bool
     ensures { result ≡ list_any (names name.now) (map named rows.now) }
 {
     for row in rows {
@@ -83,7 +83,7 @@ pub(crate) fn has_unknown(list: &[u8]) -> bool
 }
 
 /// Whether links by a row are taken.
-fn takes_row(followed: &[u8], ignored: &[u8], row: &Row) -> bool
+fn takes_row(followed: &[u8], ignored: &[u8], row: &LinkRow) -> bool
     ensures { result ≡ takes_row followed.now ignored.now (named row.now) }
 {
     (is_empty(followed) || lists(followed, row)) && !lists(ignored, row)

@@ -2,7 +2,7 @@
 ghost use Rattle.std.specs.Prelude.{◌≡◌, ◌||◌, true, false, MatchOption};
 ghost use Rattle.html_links.specs.Rules.{all_links, all_rows, has_unknown, taken_by, takes, takes_place, takes_text};
 
-use crate::links::{Found, LinkPlace};
+use crate::links::{FoundLink, LinkPlace};
 use crate::lists::{has_unknown, takes_rows, takes_sheets};
 use crate::relative::is_relative;
 use crate::table::ROWS;
@@ -31,7 +31,7 @@ impl LinkRules {
     }
 
     /// Whether a link of a page is taken.
-    pub fn takes(&self, link: &Found) -> bool
+    pub fn takes(&self, link: &FoundLink) -> bool
         ensures { result ≡ takes self.now link.now }
     {
         self.rows.takes(link.place) && self.takes_text(link.text.as_bytes())

@@ -15,7 +15,7 @@ use crate::links::LinkPlace;
 
 /// What the value of an attribute leads to.
 #[derive(Clone, Copy)]
-pub(crate) enum Form {
+pub(crate) enum LinkForm {
     /// Another document.
     Link,
     /// A part of the page.
@@ -32,82 +32,82 @@ pub(crate) enum Form {
     Mention,
 }
 
-impl Form {
+impl LinkForm {
     /// Whether links by rows of the form are followed.
     fn is_followed(self) -> bool
         ensures { result ≡ is_followed self }
     {
         match self {
-            Form::Link => true,
-            Form::Shown => true,
-            Form::Related => true,
-            Form::Button => true,
-            Form::Set => true,
-            Form::Refresh => true,
-            Form::Mention => false,
+            LinkForm::Link => true,
+            LinkForm::Shown => true,
+            LinkForm::Related => true,
+            LinkForm::Button => true,
+            LinkForm::Set => true,
+            LinkForm::Refresh => true,
+            LinkForm::Mention => false,
         }
     }
 }
 
 /// A row of the table: its number, which is its place in the table, an element, an attribute, and what its value leads to.
 #[derive(Clone, Copy)]
-pub(crate) struct Row(u8, &'static [u8], AskedName, Form);
+pub(crate) struct LinkRow(u8, &'static [u8], AskedName, LinkForm);
 
 /// How many rows the table has.
 pub(crate) const ROWS: usize = 45;
 
 // The rows by the first letters of their elements, so that most tags are compared with few of them.
-static TABLE: [Row; ROWS] = [
-    Row(0, b"a", AskedName::Href, Form::Link),
-    Row(1, b"a", AskedName::XlinkHref, Form::Link),
-    Row(2, b"area", AskedName::Href, Form::Link),
-    Row(3, b"audio", AskedName::Src, Form::Shown),
-    Row(4, b"body", AskedName::Background, Form::Shown),
-    Row(5, b"button", AskedName::FormAction, Form::Mention),
-    Row(6, b"blockquote", AskedName::Cite, Form::Mention),
-    Row(7, b"del", AskedName::Cite, Form::Mention),
-    Row(8, b"embed", AskedName::Src, Form::Shown),
-    Row(9, b"form", AskedName::Action, Form::Mention),
-    Row(10, b"frame", AskedName::Src, Form::Shown),
-    Row(11, b"feimage", AskedName::Href, Form::Shown),
-    Row(12, b"feimage", AskedName::XlinkHref, Form::Shown),
-    Row(13, b"img", AskedName::Src, Form::Shown),
-    Row(14, b"img", AskedName::SrcSet, Form::Set),
-    Row(15, b"img", AskedName::LongDesc, Form::Link),
-    Row(16, b"img", AskedName::LowSrc, Form::Shown),
-    Row(17, b"iframe", AskedName::Src, Form::Shown),
-    Row(18, b"input", AskedName::Src, Form::Button),
-    Row(19, b"input", AskedName::FormAction, Form::Mention),
-    Row(20, b"ins", AskedName::Cite, Form::Mention),
-    Row(21, b"image", AskedName::Href, Form::Shown),
-    Row(22, b"image", AskedName::XlinkHref, Form::Shown),
-    Row(23, b"link", AskedName::Href, Form::Related),
-    Row(24, b"link", AskedName::ImageSrcSet, Form::Set),
-    Row(25, b"meta", AskedName::Content, Form::Refresh),
-    Row(26, b"object", AskedName::Data, Form::Shown),
-    Row(27, b"q", AskedName::Cite, Form::Mention),
-    Row(28, b"script", AskedName::Src, Form::Shown),
-    Row(29, b"script", AskedName::Href, Form::Shown),
-    Row(30, b"script", AskedName::XlinkHref, Form::Shown),
-    Row(31, b"source", AskedName::Src, Form::Shown),
-    Row(32, b"source", AskedName::SrcSet, Form::Set),
-    Row(33, b"track", AskedName::Src, Form::Shown),
-    Row(34, b"table", AskedName::Background, Form::Shown),
-    Row(35, b"thead", AskedName::Background, Form::Shown),
-    Row(36, b"tbody", AskedName::Background, Form::Shown),
-    Row(37, b"tfoot", AskedName::Background, Form::Shown),
-    Row(38, b"tr", AskedName::Background, Form::Shown),
-    Row(39, b"td", AskedName::Background, Form::Shown),
-    Row(40, b"th", AskedName::Background, Form::Shown),
-    Row(41, b"use", AskedName::Href, Form::Shown),
-    Row(42, b"use", AskedName::XlinkHref, Form::Shown),
-    Row(43, b"video", AskedName::Src, Form::Shown),
-    Row(44, b"video", AskedName::Poster, Form::Shown),
+static TABLE: [LinkRow; ROWS] = [
+    LinkRow(0, b"a", AskedName::Href, LinkForm::Link),
+    LinkRow(1, b"a", AskedName::XlinkHref, LinkForm::Link),
+    LinkRow(2, b"area", AskedName::Href, LinkForm::Link),
+    LinkRow(3, b"audio", AskedName::Src, LinkForm::Shown),
+    LinkRow(4, b"body", AskedName::Background, LinkForm::Shown),
+    LinkRow(5, b"button", AskedName::FormAction, LinkForm::Mention),
+    LinkRow(6, b"blockquote", AskedName::Cite, LinkForm::Mention),
+    LinkRow(7, b"del", AskedName::Cite, LinkForm::Mention),
+    LinkRow(8, b"embed", AskedName::Src, LinkForm::Shown),
+    LinkRow(9, b"form", AskedName::Action, LinkForm::Mention),
+    LinkRow(10, b"frame", AskedName::Src, LinkForm::Shown),
+    LinkRow(11, b"feimage", AskedName::Href, LinkForm::Shown),
+    LinkRow(12, b"feimage", AskedName::XlinkHref, LinkForm::Shown),
+    LinkRow(13, b"img", AskedName::Src, LinkForm::Shown),
+    LinkRow(14, b"img", AskedName::SrcSet, LinkForm::Set),
+    LinkRow(15, b"img", AskedName::LongDesc, LinkForm::Link),
+    LinkRow(16, b"img", AskedName::LowSrc, LinkForm::Shown),
+    LinkRow(17, b"iframe", AskedName::Src, LinkForm::Shown),
+    LinkRow(18, b"input", AskedName::Src, LinkForm::Button),
+    LinkRow(19, b"input", AskedName::FormAction, LinkForm::Mention),
+    LinkRow(20, b"ins", AskedName::Cite, LinkForm::Mention),
+    LinkRow(21, b"image", AskedName::Href, LinkForm::Shown),
+    LinkRow(22, b"image", AskedName::XlinkHref, LinkForm::Shown),
+    LinkRow(23, b"link", AskedName::Href, LinkForm::Related),
+    LinkRow(24, b"link", AskedName::ImageSrcSet, LinkForm::Set),
+    LinkRow(25, b"meta", AskedName::Content, LinkForm::Refresh),
+    LinkRow(26, b"object", AskedName::Data, LinkForm::Shown),
+    LinkRow(27, b"q", AskedName::Cite, LinkForm::Mention),
+    LinkRow(28, b"script", AskedName::Src, LinkForm::Shown),
+    LinkRow(29, b"script", AskedName::Href, LinkForm::Shown),
+    LinkRow(30, b"script", AskedName::XlinkHref, LinkForm::Shown),
+    LinkRow(31, b"source", AskedName::Src, LinkForm::Shown),
+    LinkRow(32, b"source", AskedName::SrcSet, LinkForm::Set),
+    LinkRow(33, b"track", AskedName::Src, LinkForm::Shown),
+    LinkRow(34, b"table", AskedName::Background, LinkForm::Shown),
+    LinkRow(35, b"thead", AskedName::Background, LinkForm::Shown),
+    LinkRow(36, b"tbody", AskedName::Background, LinkForm::Shown),
+    LinkRow(37, b"tfoot", AskedName::Background, LinkForm::Shown),
+    LinkRow(38, b"tr", AskedName::Background, LinkForm::Shown),
+    LinkRow(39, b"td", AskedName::Background, LinkForm::Shown),
+    LinkRow(40, b"th", AskedName::Background, LinkForm::Shown),
+    LinkRow(41, b"use", AskedName::Href, LinkForm::Shown),
+    LinkRow(42, b"use", AskedName::XlinkHref, LinkForm::Shown),
+    LinkRow(43, b"video", AskedName::Src, LinkForm::Shown),
+    LinkRow(44, b"video", AskedName::Poster, LinkForm::Shown),
 ];
 
 /// The rows.
 #[tactic(auto, unfolding(crate::specs::Links::link_table))]
-pub(crate) fn table() -> &'static [Row; ROWS]
+pub(crate) fn table() -> &'static [LinkRow; ROWS]
     ensures { map named result.now ≡ link_table }
 {
     &TABLE
@@ -115,7 +115,7 @@ pub(crate) fn table() -> &'static [Row; ROWS]
 
 /// The rows of elements whose names begin with that byte.
 #[tactic(auto, unfolding(crate::specs::Links::link_table))]
-fn rows_with(first: u8) -> &'static [Row]
+fn rows_with(first: u8) -> &'static [LinkRow]
     ensures { map named result.now ≡ rows_with first link_table }
 {
     match first {
@@ -138,7 +138,7 @@ fn rows_with(first: u8) -> &'static [Row]
 }
 
 /// Rows among which all of elements of that name are, in the table's order.
-pub(crate) fn rows_for(name: &[u8]) -> &'static [Row]
+pub(crate) fn rows_for(name: &[u8]) -> &'static [LinkRow]
     ensures asked { list_any (λ row. bytes_eq name.now row.element) (map named result.now) ≡ list_any (λ row. bytes_eq name.now row.element) link_table }
     ensures row { (attribute : List ℕ) → row_of name.now attribute (map named result.now) ≡ row_of name.now attribute link_table }
     ensures links { (attributes : List NameAndValue) → flat_map (row_links (record { name = name.now; attributes = attributes })) (map named result.now) ≡ table_links (record { name = name.now; attributes = attributes }) }
@@ -149,7 +149,7 @@ pub(crate) fn rows_for(name: &[u8]) -> &'static [Row]
     }
 }
 
-impl Row {
+impl LinkRow {
     /// Whether elements of that name have the attribute.
     pub(crate) fn is_of(&self, name: &[u8]) -> bool
         ensures { result ≡ bytes_eq name.now (named self.now).element }
@@ -176,7 +176,7 @@ impl Row {
         self.2
     }
 
-    pub(crate) fn form(&self) -> Form
+    pub(crate) fn form(&self) -> LinkForm
         ensures { result ≡ (named self.now).form }
     {
         self.3
@@ -198,7 +198,7 @@ impl Row {
 }
 
 /// Whether one of the rows is of elements of that name.
-pub(crate) fn has_row(rows: &[Row], name: &[u8]) -> bool
+pub(crate) fn has_row(rows: &[LinkRow], name: &[u8]) -> bool
     ensures { result ≡ list_any (λ row. bytes_eq name.now row.element) (map named rows.now) }
 {
     for row in rows {

@@ -298,7 +298,7 @@ impl<C: Connect> HttpFetcher<C> {
     }
 
     // What comes over a wire that served before: none if no byte came. Fails only if memory runs out.
-    fn read_again(&mut self, wire: &mut C::Wire) -> Result<Option<Heard>, AllocError>
+    fn read_kept(&mut self, wire: &mut C::Wire) -> Result<Option<Heard>, AllocError>
         ensures same { self.new ≡ self.old }
         ensures silent { IfOk result (λ o. IfNone o (Keeps (C.Wire.incoming wire.old) (C.Wire.incoming wire.new)
             × (IsAtEnd (C.Wire.incoming wire.old) ⊎ IsLostInTime (C.Wire.failed wire.old) (C.Wire.failed wire.new) (C.Wire.timed_out wire.new)))) }
@@ -368,14 +368,18 @@ impl<C: Connect> HttpFetcher<C> {
     }
 
     // What is received over a wire that served before: none if no byte came. Fails only if memory runs out.
-    fn told_again(&mut self, wire: &mut C::Wire, at: &Address) -> Result<Option<Heard>, AllocError>
+    fn told_over_kept(
+        &mut self,
+        wire: &mut C::Wire,
+        at: &Address,
+    ) -> Result<Option<Heard>, AllocError>
         ensures same { self.new ≡ self.old }
         ensures silent { IfOk result (λ o. IfNone o (IsUnansweredOn C.Wire.Wire (question_of standard self.old at.now) wire.old)) }
         ensures told { IfOk result (λ o. IfSome o (λ h. ComesOver C.Wire.Wire (question_of standard self.old at.now) wire.old (answer_told self.old.links at.now h.told))) }
         ensures serves { IfOk result (λ o. IfSome o (λ h. IsTrue h.serves → LeavesUsable C.Wire.Wire (question_of standard self.old at.now) wire.old wire.new)) }
     {
         match self.write(wire, at) {
-            Ok(()) => self.read_again(wire),
+            Ok(()) => self.read_kept(wire),
             Err(SendFault::Memory) => Err(AllocError),
             Err(SendFault::Device) => {
                 if wire.has_timed_out() {
@@ -408,7 +412,7 @@ impl<C: Connect> HttpFetcher<C> {
     }
 
     // Asks one question over one new connection. Fails only if memory runs out.
-    fn ask_anew(&mut self, origin: &Origin, at: &Address) -> Result<Told, AllocError>
+    fn exchange_on_new(&mut self, origin: &Origin, at: &Address) -> Result<Told, AllocError>
         requires { origin.now ≡ origin_of at.now }
         ensures asks { self.new.asks ≡ self.old.asks }
         ensures links { self.new.links ≡ self.old.links }
@@ -440,7 +444,11 @@ impl<C: Connect> HttpFetcher<C> {
 
     // Asks it over a connection that was kept: none if there was none, no byte came over it, or its server had given up waiting.
     // Fails only if memory runs out.
-    fn ask_again(&mut self, origin: &Origin, at: &Address) -> Result<Option<Told>, AllocError>
+    fn exchange_on_kept(
+        &mut self,
+        origin: &Origin,
+        at: &Address,
+    ) -> Result<Option<Told>, AllocError>
         requires { origin.now ≡ origin_of at.now }
         ensures asks { self.new.asks ≡ self.old.asks }
         ensures links { self.new.links ≡ self.old.links }
@@ -461,7 +469,7 @@ impl<C: Connect> HttpFetcher<C> {
         let Some(mut wire) = self.connect.take(origin) else {
             return Ok(None);
         };
-        match self.told_again(&mut wire, at) {
+        match self.told_over_kept(&mut wire, at) {
             Ok(Some(heard)) => {
                 if has_given_up(&heard.told) {
                     self.connect.close(wire);
@@ -495,9 +503,9 @@ impl<C: Connect> HttpFetcher<C> {
         ensures stands { StandsBy C.Connect C.Wire.Wire standard self.old self.new at.now }
     {
         let origin = Origin::of(at)?;
-        match self.ask_again(&origin, at)? {
+        match self.exchange_on_kept(&origin, at)? {
             Some(told) => Ok(told),
-            None => self.ask_anew(&origin, at),
+            None => self.exchange_on_new(&origin, at),
         }
     }
 
@@ -650,7 +658,7 @@ impl<C: Connect> HttpFetcher<C> {
     }
 
     // What comes for a page over a wire that served before: none if no byte came. Fails only if memory runs out.
-    fn read_page_again<K: Keeper>(
+    fn read_kept_page<K: Keeper>(
         &mut self,
         wire: &mut C::Wire,
         at: &Address,
@@ -680,7 +688,7 @@ impl<C: Connect> HttpFetcher<C> {
     }
 
     // What is received of a page over a wire that served before: none if no byte came. Fails only if memory runs out.
-    fn page_again<K: Keeper>(
+    fn page_over_kept<K: Keeper>(
         &mut self,
         wire: &mut C::Wire,
         at: &Address,
@@ -693,7 +701,7 @@ impl<C: Connect> HttpFetcher<C> {
         ensures serves { IfOk result (λ o. IfSome o (λ h. IsTrue h.serves → LeavesUsable C.Wire.Wire (question_of (limited limits) self.old at.now) wire.old wire.new)) }
     {
         match self.write(wire, at) {
-            Ok(()) => self.read_page_again(wire, at, sink, limits),
+            Ok(()) => self.read_kept_page(wire, at, sink, limits),
             Err(SendFault::Memory) => Err(AllocError),
             Err(SendFault::Device) => {
                 if wire.has_timed_out() {
@@ -731,7 +739,7 @@ impl<C: Connect> HttpFetcher<C> {
     }
 
     // Requests a page over one new connection. Fails only if memory runs out.
-    fn ask_page_anew<K: Keeper>(
+    fn exchange_page_on_new<K: Keeper>(
         &mut self,
         origin: &Origin,
         at: &Address,
@@ -769,7 +777,7 @@ impl<C: Connect> HttpFetcher<C> {
 
     // Requests a page over a connection that was kept: none if there was none, no byte came over it, or its server had given up
     // waiting. Fails only if memory runs out.
-    fn ask_page_again<K: Keeper>(
+    fn exchange_page_on_kept<K: Keeper>(
         &mut self,
         origin: &Origin,
         at: &Address,
@@ -796,7 +804,7 @@ impl<C: Connect> HttpFetcher<C> {
         let Some(mut wire) = self.connect.take(origin) else {
             return Ok(None);
         };
-        match self.page_again(&mut wire, at, sink, limits) {
+        match self.page_over_kept(&mut wire, at, sink, limits) {
             Ok(Some(heard)) => {
                 if says_given_up(&heard.answer.outcome) {
                     self.connect.close(wire);
@@ -837,9 +845,9 @@ impl<C: Connect> HttpFetcher<C> {
         ensures may { IfOk result (λ a. StandsForOne K.holds a (λ real. MayAnswerWithin (limited limits) self.old.links at.now real.outcome real.body)) }
     {
         let origin = Origin::of(at)?;
-        match self.ask_page_again(&origin, at, sink, limits)? {
+        match self.exchange_page_on_kept(&origin, at, sink, limits)? {
             Some(answer) => Ok(answer),
-            None => self.ask_page_anew(&origin, at, sink, limits),
+            None => self.exchange_page_on_new(&origin, at, sink, limits),
         }
     }
 

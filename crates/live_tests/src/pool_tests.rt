@@ -11,7 +11,7 @@ use std::process::Abort;
 use std::sync::Wait;
 use std::sync::atomic::{AtomicBool, AtomicU64, Ordering};
 use std::time::{Clock, Duration};
-use tcp_connect::{Hosts, Kept, TcpConnect};
+use tcp_connect::{Hosts, KeptConnections, TcpConnect};
 
 /// The system's network, with a clock that goes only if the test says so, and which takes no connection while it refuses them.
 #[derive(Drop)]
@@ -307,7 +307,7 @@ fn take_steps<R: Net + Wait + Abort, C: Connect>(
     rt: &R,
     alloc: Global,
     still: &Still<'_, R>,
-    kept: &Kept<R::Stream>,
+    kept: &KeptConnections<R::Stream>,
     connect: &mut C,
     wires: &mut Vec<C::Wire>,
     server: &mut Server<'_>,
@@ -338,7 +338,7 @@ fn connections_that_wait_are_counted_and_those_that_died_are_dropped(rt: HostRun
     };
     let still = Still::new(&rt);
     let hosts = Hosts::new(alloc);
-    let kept = Kept::new(alloc);
+    let kept = KeptConnections::new(alloc);
     let mut connect = TcpConnect::new(&still, alloc, &hosts).keeping(&kept, 2);
     let mut wires = Vec::new(alloc);
     take_steps(

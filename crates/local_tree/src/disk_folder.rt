@@ -10,7 +10,7 @@ use crate::site_files::WriteFault;
 use harvest::Harvest;
 use kept_bodies::Body;
 use local_names::is_local_name;
-use part_keeper::{OwnDir, Part, make_own_dir};
+use part_keeper::{KeptPart, OwnDir, make_own_dir};
 use std::alloc::{AllocError, Global};
 use std::fs::Files;
 use std::io::{Error, ErrorKind};
@@ -77,7 +77,7 @@ pub struct DiskFolder<'a, R: Files> {
     // Below which directory the keepers of a run have their parts; empty if there is none.
     parts: String,
     // Those that couldn't be moved back from the names that they were given early, and whether some aren't among them.
-    stuck: Vec<Part>,
+    stuck: Vec<KeptPart>,
     are_all_stuck: bool,
     // Whether one was moved back.
     has_moved_back: bool,

@@ -19,4 +19,4 @@ mod reading;
 pub use crate::entry::{Entry, KeptHead, MAX_LINE, digest_of};
 pub use crate::index::{MAX_ENTRIES, MirrorIndex};
 pub use crate::line::{entry_line, read_line};
-pub use crate::reading::{IndexFault, MAX_INDEX, WriteFault, read_index, write_index};
+pub use crate::reading::{IndexFault, IndexWriteFault, MAX_INDEX, read_index, write_index};

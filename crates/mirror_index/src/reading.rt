@@ -42,7 +42,7 @@ impl From<AllocError> for IndexFault {
 
 /// Why an index wasn't written.
 #[derive(Clone, Copy, PartialEq, Eq, Debug)]
-pub enum WriteFault {
+pub enum IndexWriteFault {
     /// A write failed.
     Device,
     /// Memory ran out. Nothing was written.
@@ -192,7 +192,7 @@ pub fn write_index<W: Write>(
     alloc: Global,
     writer: &mut W,
     index: &MirrorIndex,
-) -> Result<(), WriteFault>
+) -> Result<(), IndexWriteFault>
     ensures written { OnOk result (Appends (W.contents writer.old) (W.contents writer.new) (index_text index.now)) }
     ensures part { OnErr result (AppendsFront (W.contents writer.old) (W.contents writer.new) (index_text index.now)) }
     // What is written is read back as these entries.
@@ -202,8 +202,8 @@ pub fn write_index<W: Write>(
     match text_of(alloc, entries) {
         Ok(text) => match write_text(writer, text.as_slice()) {
             Ok(()) => Ok(()),
-            Err(_) => Err(WriteFault::Device),
+            Err(_) => Err(IndexWriteFault::Device),
         },
-        Err(_) => Err(WriteFault::Memory),
+        Err(_) => Err(IndexWriteFault::Memory),
     }
 }

@@ -5,7 +5,7 @@ ghost use Rattle.mirror_upkeep.specs.Sure.{IsSure, is_open};
 
 use address::Address;
 use fetcher::Outcome;
-use harvest::{Entry, Harvest};
+use harvest::{Harvest, HarvestEntry};
 use mirror_index::MirrorIndex;
 
 // Whether what became of an address leaves open what is there: it wasn't answered, or by a failure other than that nothing is there.
@@ -39,7 +39,7 @@ fn has(index: &MirrorIndex, at: &Address) -> bool
 }
 
 // Whether robots rules refuse none of the addresses that an earlier index has.
-fn are_allowed(entries: &[Entry], earlier: &MirrorIndex) -> bool
+fn are_allowed(entries: &[HarvestEntry], earlier: &MirrorIndex) -> bool
     ensures { IsTrue result ↔ All (λ e. IsTrue e.refused → HasNone earlier.now e.address) entries.now }
 {
     for entry in entries {

@@ -10,8 +10,8 @@ use Rattle.fetcher.specs.declared.outcome.Outcome.{Outcome}
 use Rattle.fetcher.specs.declared.outcome.Outcome.TheVariants.{Page, Moved, Leaf, Fault}
 use Rattle.fetcher.specs.Statuses.{is_redirect}
 use Rattle.follow_filters.specs.declared.plan.Plan.{Plan}
-use Rattle.follow_filters.specs.declared.rule.Rule.{Rule}
-use Rattle.follow_filters.specs.declared.rule.Rule.TheVariants as rule
+use Rattle.follow_filters.specs.declared.rule.FollowRule.{FollowRule}
+use Rattle.follow_filters.specs.declared.rule.FollowRule.TheVariants as rule
 use Rattle.follow_filters.specs.Plans.{starts}
 use Rattle.follow_filters.specs.Rules.{edge_verdict}
 use Rattle.moved_starts.specs.declared.moves.TheConstants.{MAX_MOVES}
@@ -58,7 +58,7 @@ abbrev pub words_to : Text → Text
 words_to host = if starts_with nat_eq host (codes "[") then codes "-H" else codes "-D " ++ host ++ codes " -H"
 
 -- the option that leaves an address out
-abbrev pub option_of : Rule → Text
+abbrev pub option_of : FollowRule → Text
 option_of rule.RobotsFile = []
 option_of rule.Host = []
 option_of rule.Parent = codes "-np"
@@ -72,13 +72,13 @@ option_of rule.ExpressionMissing = codes "--accept-regex"
 option_of rule.ExpressionFound = codes "--reject-regex"
 
 -- why a redirect isn't followed to this target, and what would go there: each start is requested, whatever filters say
-abbrev pub advice_on : Rule → Text → Text
+abbrev pub advice_on : FollowRule → Text → Text
 advice_on rule.RobotsFile target = codes ", which is a robots file"
 advice_on rule.Host target = codes ": give that as START, or " ++ words_to (host_of target)
 advice_on other target = codes ": give that as START, since " ++ option_of other ++ codes " leaves it out"
 
 -- of a start whose redirects lead to a target, by the rule that this doesn't meet
-abbrev pub stopped_line : Text → Text → Result (Unit {0}) Rule → Text
+abbrev pub stopped_line : Text → Text → Result (Unit {0}) FollowRule → Text
 stopped_line start target (Ok followed) = []
 stopped_line start target (Err unmet) = start ++ codes " moved to " ++ target ++ advice_on unmet target ++ codes "\n"
 

@@ -7,7 +7,7 @@ ghost use Rattle.moved_starts.specs.Moves.{advice_on, by_way_of, end_line, end_o
 
 use address::{Address, Scheme};
 use fetcher::{EdgeKind, Outcome, is_redirect};
-use follow_filters::{Plan, Rule};
+use follow_filters::{FollowRule, Plan};
 use std::alloc::{AllocError, Global};
 
 /// How many redirects of a start are looked at. Whoever redirects more often leads nowhere that a person would want to go.
@@ -78,20 +78,20 @@ fn end_of<'a>(records: &'a [(Address, Outcome)], start: &'a Address, most: u32) 
 }
 
 // The option that leaves an address out.
-fn option_of(rule: Rule) -> &'static str
+fn option_of(rule: FollowRule) -> &'static str
     ensures { result.now ≡ option_of rule }
 {
     match rule {
-        Rule::RobotsFile | Rule::Host => "",
-        Rule::Parent => "-np",
-        Rule::Domain => "-D",
-        Rule::ExcludedDomain => "--exclude-domains",
-        Rule::NotIncluded => "-I",
-        Rule::Excluded => "-X",
-        Rule::NotAccepted => "-A",
-        Rule::Rejected => "-R",
-        Rule::ExpressionMissing => "--accept-regex",
-        Rule::ExpressionFound => "--reject-regex",
+        FollowRule::RobotsFile | FollowRule::Host => "",
+        FollowRule::Parent => "-np",
+        FollowRule::Domain => "-D",
+        FollowRule::ExcludedDomain => "--exclude-domains",
+        FollowRule::NotIncluded => "-I",
+        FollowRule::Excluded => "-X",
+        FollowRule::NotAccepted => "-A",
+        FollowRule::Rejected => "-R",
+        FollowRule::ExpressionMissing => "--accept-regex",
+        FollowRule::ExpressionFound => "--reject-regex",
     }
 }
 
@@ -107,12 +107,12 @@ fn words_to(alloc: Global, host: &str) -> Result<String, AllocError>
 }
 
 // Why a redirect isn't followed to this target, and what would go there.
-fn advice_on(alloc: Global, rule: Rule, target: &Address) -> Result<String, AllocError>
+fn advice_on(alloc: Global, rule: FollowRule, target: &Address) -> Result<String, AllocError>
     ensures { IfOk result (λ advice. string_bytes advice ≡ advice_on rule target.now) }
 {
     match rule {
-        Rule::RobotsFile => String::from_str(alloc, ", which is a robots file"),
-        Rule::Host => {
+        FollowRule::RobotsFile => String::from_str(alloc, ", which is a robots file"),
+        FollowRule::Host => {
             let words = words_to(alloc, target.host())?;
             format!(in alloc; ": give that as START, or {words}")
         }
@@ -129,7 +129,7 @@ fn push_stopped(
     text: &mut String,
     start: &Address,
     target: &Address,
-    verdict: Result<(), Rule>,
+    verdict: Result<(), FollowRule>,
 ) -> Result<(), AllocError>
     ensures ok { OnOk result (string_bytes text.new ≡ string_bytes text.old ++ stopped_line start.now target.now verdict) }
 {

@@ -5,8 +5,8 @@ use Rattle.std.specs.List.{flat_map}
 use Rattle.clap.specs.Walk.{Text}
 use Rattle.options.specs.declared.help.TheConstants.{HEAD, FOOT}
 use Rattle.options.specs.declared.summary.Summary.{Summary}
-use Rattle.options.specs.declared.table.Kind.{Kind}
-use Rattle.options.specs.declared.table.Kind.TheVariants as kind
+use Rattle.options.specs.declared.table.OptionKind.{OptionKind}
+use Rattle.options.specs.declared.table.OptionKind.TheVariants as kind
 use Rattle.options.specs.declared.table.Row.{Row}
 use Rattle.options.specs.Table.{summaries, table}
 
@@ -19,7 +19,7 @@ abbrev pub short_text : Text → Text
 short_text short = if length short == 0 then [] else codes "  -" ++ short ++ codes ","
 
 -- the name of an option's value
-abbrev pub value_name : Kind Text → Option Text
+abbrev pub value_name : OptionKind Text → Option Text
 value_name kind.Flag = None
 value_name kind.Holds = None
 value_name (kind.Opposite other) = None
@@ -38,7 +38,7 @@ abbrev pub left_text : Row Text → Text
 left_text row = in_columns 7 (short_text row.short) ++ codes "--" ++ row.name ++ value_text (value_name row.kind)
 
 -- the default of an option, and its range
-abbrev pub usual_text : Kind Text → Text
+abbrev pub usual_text : OptionKind Text → Text
 usual_text kind.Flag = []
 usual_text kind.Holds = []
 usual_text (kind.Opposite other) = []

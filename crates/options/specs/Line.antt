@@ -6,8 +6,8 @@ use Rattle.clap.specs.Simple.{App, matches_of, new_app, new_rule, on_top, with_r
 use Rattle.clap.specs.Walk.{Row as Found, Rule, Text}
 use Rattle.clap.specs.Kinds.{Kinds}
 use Rattle.clap.specs.Faults.{fault_of}
-use Rattle.options.specs.declared.table.Kind.{Kind}
-use Rattle.options.specs.declared.table.Kind.TheVariants as kind
+use Rattle.options.specs.declared.table.OptionKind.{OptionKind}
+use Rattle.options.specs.declared.table.OptionKind.TheVariants as kind
 use Rattle.options.specs.declared.table.Row.{Row}
 use Rattle.options.specs.Table.{table}
 
@@ -22,7 +22,7 @@ abbrev pub number_rule : ℕ → Rule → Rule
 number_rule most rule = record rule { parser = Some (value.Signed (pos 1) (pos most)) }
 
 -- the rule with the option's value: a flag has none
-abbrev pub with_kind : Kind Text → Rule → Rule
+abbrev pub with_kind : OptionKind Text → Rule → Rule
 with_kind kind.Flag rule = record rule { action = Some SetTrue }
 with_kind kind.Holds rule = record rule { action = Some SetTrue }
 with_kind (kind.Opposite other) rule = record rule { action = Some SetTrue }

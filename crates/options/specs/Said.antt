@@ -14,8 +14,8 @@ use Rattle.options.specs.declared.said.Saying.TheVariants as saying
 use Rattle.options.specs.declared.said.State.{State}
 use Rattle.options.specs.declared.said.State.TheVariants as state
 use Rattle.options.specs.declared.table.Command.{Command}
-use Rattle.options.specs.declared.table.Kind.{Kind}
-use Rattle.options.specs.declared.table.Kind.TheVariants as kind
+use Rattle.options.specs.declared.table.OptionKind.{OptionKind}
+use Rattle.options.specs.declared.table.OptionKind.TheVariants as kind
 use Rattle.options.specs.declared.table.Row.{Row}
 use Rattle.options.specs.Meant.{long_name, meant, without_dash}
 use Rattle.options.specs.Table.{commands, table}
@@ -68,14 +68,14 @@ valued name None = meaning.Waits name
 valued name (Some value) = meaning.Means name value
 
 -- an option of this name and kind, or its opposite, with this value
-abbrev pub meaning_of : Text → Kind Text → Bool → Option Text → Meaning Text
+abbrev pub meaning_of : Text → OptionKind Text → Bool → Option Text → Meaning Text
 meaning_of name kind.Flag on value = switched name on value
 meaning_of name kind.Holds on value = held (switched name on value)
 meaning_of name (kind.Opposite other) on value = switched other (not on) value
 meaning_of name other on value = valued name value
 
 -- the option is on or off
-abbrev pub is_switch : Kind Text → Bool
+abbrev pub is_switch : OptionKind Text → Bool
 is_switch kind.Flag = true
 is_switch kind.Holds = true
 is_switch (kind.Opposite other) = true

@@ -6,13 +6,13 @@ use Rattle.options.specs.declared.summary.Summary.{Summary}
 use Rattle.options.specs.declared.summary.TheConstants.{SUMMARY}
 use Rattle.options.specs.declared.table.Command.{Command}
 use Rattle.options.specs.declared.table.Instead.{Instead}
-use Rattle.options.specs.declared.table.Kind.{Kind}
-use Rattle.options.specs.declared.table.Kind.TheVariants as kind
+use Rattle.options.specs.declared.table.OptionKind.{OptionKind}
+use Rattle.options.specs.declared.table.OptionKind.TheVariants as kind
 use Rattle.options.specs.declared.table.Row.{Row}
 use Rattle.options.specs.declared.table.TheConstants.{COMMANDS, INSTEAD, OWN, TABLE, WGET}
 
 -- what follows an option, with its texts read this way
-abbrev pub kind_by : {T : Type 0} → (T → Text) → Kind T → Kind Text
+abbrev pub kind_by : {T : Type 0} → (T → Text) → OptionKind T → OptionKind Text
 kind_by read kind.Flag = kind.Flag
 kind_by read kind.Holds = kind.Holds
 kind_by read (kind.Opposite other) = kind.Opposite (read other)

@@ -4,14 +4,14 @@ use Rattle.std.specs.List.{flat_map}
 use Rattle.clap.specs.Walk.{Text}
 use Rattle.options.specs.declared.said.Saying.{Saying}
 use Rattle.options.specs.declared.said.Saying.TheVariants as saying
-use Rattle.options.specs.declared.table.Kind.{Kind}
-use Rattle.options.specs.declared.table.Kind.TheVariants as kind
+use Rattle.options.specs.declared.table.OptionKind.{OptionKind}
+use Rattle.options.specs.declared.table.OptionKind.TheVariants as kind
 use Rattle.options.specs.declared.table.Row.{Row}
 use Rattle.options.specs.Said.{sayings}
 use Rattle.options.specs.Table.{table}
 
 -- the option's values add up
-abbrev pub is_list : Kind Text → Bool
+abbrev pub is_list : OptionKind Text → Bool
 is_list (kind.List name) = true
 is_list other = false
 
@@ -61,7 +61,7 @@ abbrev pub form_word : Text → Text
 form_word name = codes "--" ++ name
 
 -- an option of this name and kind with a value, written out: one that is off isn't
-abbrev pub value_words : Text → Kind Text → Text → List Text
+abbrev pub value_words : Text → OptionKind Text → Text → List Text
 value_words name kind.Flag value = if bytes_eq value (codes "on") then form_word name ∷ [] else []
 value_words name kind.Holds value = []
 value_words name (kind.Opposite other) value = []

@@ -5,7 +5,7 @@ ghost use Rattle.options.specs.Help.{help_text, in_columns, left_text, row_text,
 ghost use Rattle.options.specs.inner.Table.{kind_in, row_in};
 
 use crate::summary::summary_of;
-use crate::table::{Kind, Row, option_rows};
+use crate::table::{OptionKind, Row, option_rows};
 use std::alloc::{AllocError, Global};
 
 /// The version of the program.
@@ -56,14 +56,14 @@ fn short_text(alloc: Global, short: &str) -> Result<String, AllocError>
 }
 
 // The name of an option's value.
-fn value_name(kind: &Kind<&'static str>) -> Option<&'static str>
+fn value_name(kind: &OptionKind<&'static str>) -> Option<&'static str>
     ensures { option_map (λ name. name.now) result ≡ value_name (kind_in kind.now) }
 {
     match kind {
-        Kind::Flag | Kind::Holds | Kind::Opposite(_) => None,
-        Kind::Value(name) | Kind::List(name) => Some(*name),
-        Kind::Usual(name, _) => Some(*name),
-        Kind::Number(_, _) => Some("N"),
+        OptionKind::Flag | OptionKind::Holds | OptionKind::Opposite(_) => None,
+        OptionKind::Value(name) | OptionKind::List(name) => Some(*name),
+        OptionKind::Usual(name, _) => Some(*name),
+        OptionKind::Number(_, _) => Some("N"),
     }
 }
 
@@ -102,14 +102,14 @@ fn left_text(alloc: Global, row: &Row<&'static str>) -> Result<String, AllocErro
 }
 
 // The default of an option, and its range.
-fn usual_text(alloc: Global, kind: &Kind<&'static str>) -> Result<String, AllocError>
+fn usual_text(alloc: Global, kind: &OptionKind<&'static str>) -> Result<String, AllocError>
     ensures { IfOk result (λ text. string_bytes text ≡ usual_text (kind_in kind.now)) }
 {
     match kind {
-        Kind::Flag | Kind::Holds | Kind::Opposite(_) => Ok(String::new(alloc)),
-        Kind::Value(_) | Kind::List(_) => Ok(String::new(alloc)),
-        Kind::Usual(_, usual) => format!(in alloc; " ({usual})"),
-        Kind::Number(most, usual) => range_text(alloc, *most, *usual),
+        OptionKind::Flag | OptionKind::Holds | OptionKind::Opposite(_) => Ok(String::new(alloc)),
+        OptionKind::Value(_) | OptionKind::List(_) => Ok(String::new(alloc)),
+        OptionKind::Usual(_, usual) => format!(in alloc; " ({usual})"),
+        OptionKind::Number(most, usual) => range_text(alloc, *most, *usual),
     }
 }
 

@@ -6,7 +6,7 @@ ghost use Rattle.options.specs.inner.Line.{long_form, with_long_form};
 ghost use Rattle.options.specs.inner.Table.{kind_in, row_in};
 
 use crate::help::VERSION;
-use crate::table::{Kind, Row, option_rows};
+use crate::table::{OptionKind, Row, option_rows};
 use clap::{Arg, ArgAction, ArgMatches, Command, Error, value_parser};
 use std::alloc::{AllocError, Global};
 
@@ -29,16 +29,18 @@ fn number<'a>(alloc: Global, name: &'a str, most: u32) -> Arg<'a>
 }
 
 // The argument of this name with its value.
-fn of_kind<'a>(alloc: Global, name: &'a str, kind: &Kind<&'static str>) -> Arg<'a>
+fn of_kind<'a>(alloc: Global, name: &'a str, kind: &OptionKind<&'static str>) -> Arg<'a>
     ensures rule { rule_of result ≡ with_kind (kind_in kind.now) (new_rule name.entry.now) }
     ensures own { result.global ≡ false }
 {
     match kind {
-        Kind::Flag | Kind::Holds | Kind::Opposite(_) => {
+        OptionKind::Flag | OptionKind::Holds | OptionKind::Opposite(_) => {
             Arg::new(alloc, name).action(ArgAction::SetTrue)
         }
-        Kind::Value(_) | Kind::List(_) | Kind::Usual(_, _) => Arg::new(alloc, name),
-        Kind::Number(most, _) => number(alloc, name, *most),
+        OptionKind::Value(_) | OptionKind::List(_) | OptionKind::Usual(_, _) => Arg::new(
+            alloc, name,
+        ),
+        OptionKind::Number(most, _) => number(alloc, name, *most),
     }
 }
 
@@ -72,7 +74,7 @@ fn with_long<'a>(arg: Arg<'a>, name: Option<&'a str>) -> Arg<'a>
 }
 
 // An option of these forms. It takes a row's parts, since an argument made of a whole row is dear to prove.
-fn option<'a>(alloc: Global, short: &str, name: &'a str, kind: &Kind<&'static str>) -> Arg<'a>
+fn option<'a>(alloc: Global, short: &str, name: &'a str, kind: &OptionKind<&'static str>) -> Arg<'a>
     ensures rule { rule_of result ≡ with_long_form (long_form name.entry.now short.now)
         (with_letter (letter_of short.now) (with_kind (kind_in kind.now) (new_rule name.entry.now))) }
     ensures own { result.global ≡ false }

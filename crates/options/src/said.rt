@@ -11,7 +11,7 @@ ghost use Rattle.options.specs.inner.Table.{command_in, kind_in, row_in};
 ghost use Rattle.options.specs.declared.said.Saying.TheVariants as saying;
 
 use crate::meant::{long_name, meant, without_dash};
-use crate::table::{Command, Kind, Row, commands, option_rows};
+use crate::table::{Command, OptionKind, Row, commands, option_rows};
 use std::alloc::{AllocError, Global};
 
 /// What a word says. The types of texts here are parameters, so that definitions have them.
@@ -132,29 +132,33 @@ fn valued<'a>(name: &'a str, value: Option<&'a str>) -> Meaning<&'a str>
 // An option of this name and kind, or its opposite, with this value.
 fn meaning_of<'a>(
     name: &'a str,
-    kind: &Kind<&'static str>,
+    kind: &OptionKind<&'static str>,
     on: bool,
     value: Option<&'a str>,
 ) -> Meaning<&'a str>
     ensures { meaning_in result ≡ meaning_of name.entry.now (kind_in kind.now) on (option_map (λ value. value.now) value.entry) }
 {
     match kind {
-        Kind::Flag => switched(name, on, value),
-        Kind::Holds => held(switched(name, on, value)),
-        Kind::Opposite(other) => switched(*other, !on, value),
-        Kind::Value(_) | Kind::List(_) | Kind::Usual(_, _) | Kind::Number(_, _) => {
-            valued(name, value)
-        }
+        OptionKind::Flag => switched(name, on, value),
+        OptionKind::Holds => held(switched(name, on, value)),
+        OptionKind::Opposite(other) => switched(*other, !on, value),
+        OptionKind::Value(_)
+        | OptionKind::List(_)
+        | OptionKind::Usual(_, _)
+        | OptionKind::Number(_, _) => { valued(name, value) }
     }
 }
 
 // Whether an option is on or off.
-fn is_switch(kind: &Kind<&'static str>) -> bool
+fn is_switch(kind: &OptionKind<&'static str>) -> bool
     ensures { result ≡ is_switch (kind_in kind.now) }
 {
     match kind {
-        Kind::Flag | Kind::Holds | Kind::Opposite(_) => true,
-        Kind::Value(_) | Kind::List(_) | Kind::Usual(_, _) | Kind::Number(_, _) => false,
+        OptionKind::Flag | OptionKind::Holds | OptionKind::Opposite(_) => true,
+        OptionKind::Value(_)
+        | OptionKind::List(_)
+        | OptionKind::Usual(_, _)
+        | OptionKind::Number(_, _) => false,
     }
 }
 

@@ -6,17 +6,17 @@ ghost use Rattle.options.specs.inner.Said.{saying_in};
 ghost use Rattle.options.specs.inner.Table.{kind_in, row_in};
 
 use crate::said::Saying;
-use crate::table::{Kind, Row, option_rows};
+use crate::table::{OptionKind, Row, option_rows};
 use std::alloc::{AllocError, Global};
 
 // Whether an option's values add up.
-fn is_list(kind: &Kind<&'static str>) -> bool
+fn is_list(kind: &OptionKind<&'static str>) -> bool
     ensures { result ≡ is_list (kind_in kind.now) }
 {
     match kind {
-        Kind::List(_) => true,
-        Kind::Flag | Kind::Holds | Kind::Opposite(_) => false,
-        Kind::Value(_) | Kind::Usual(_, _) | Kind::Number(_, _) => false,
+        OptionKind::List(_) => true,
+        OptionKind::Flag | OptionKind::Holds | OptionKind::Opposite(_) => false,
+        OptionKind::Value(_) | OptionKind::Usual(_, _) | OptionKind::Number(_, _) => false,
     }
 }
 
@@ -114,19 +114,22 @@ fn push_value(
     alloc: Global,
     words: &mut Vec<String>,
     name: &str,
-    kind: &Kind<&'static str>,
+    kind: &OptionKind<&'static str>,
     value: &str,
 ) -> Result<(), AllocError>
     ensures { OnOk result (map string_bytes words.new.items ≡ map string_bytes words.old.items ++ value_words name.now (kind_in kind.now) value.now) }
 {
     match kind {
-        Kind::Flag => {
+        OptionKind::Flag => {
             if value == "on" {
                 words.push(format!(in alloc; "--{name}")?)?;
             }
         }
-        Kind::Holds | Kind::Opposite(_) => {}
-        Kind::Value(_) | Kind::List(_) | Kind::Usual(_, _) | Kind::Number(_, _) => {
+        OptionKind::Holds | OptionKind::Opposite(_) => {}
+        OptionKind::Value(_)
+        | OptionKind::List(_)
+        | OptionKind::Usual(_, _)
+        | OptionKind::Number(_, _) => {
             words.push(value_word(alloc, name, value)?)?;
         }
     }

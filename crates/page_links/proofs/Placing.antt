@@ -18,7 +18,7 @@ use Rattle.html_links.specs.declared.asked.Wanted.TheVariants as wanted
 use Rattle.html_links.specs.declared.context.Scope.{Scope}
 use Rattle.html_links.specs.declared.context.Syntax.{Syntax}
 use Rattle.html_links.specs.declared.lexer.Lexer.{Lexer}
-use Rattle.html_links.specs.declared.lexer.Mode.TheVariants.{InSheet}
+use Rattle.html_links.specs.declared.lexer.TokenizerState.TheVariants.{InSheet}
 use Rattle.html_links.specs.declared.raw_element.RawElement.{RawElement}
 use Rattle.html_links.specs.declared.awaiting.ValueForm.{ValueForm}
 use Rattle.html_links.specs.declared.awaiting.ValueForm.TheVariants.{Sheet}

@@ -7,7 +7,7 @@ ghost use Rattle.page_links.specs.Rewriting.{IsLinkChanged, IsLinkLeft, AreLinks
 
 use crate::page_change::PageChange;
 use crate::unclear::is_unclear;
-use html_links::{Found, Scan, ValueForm};
+use html_links::{FoundLink, Scan, ValueForm};
 use std::alloc::AllocError;
 
 /// Whether a text is the other one, changed in that form.
@@ -28,7 +28,7 @@ pub(crate) fn is_changed<P: PageChange>(
 }
 
 /// Whether a link is the other one, of which the text isn't clear.
-fn is_link_left(old: &Found, new: &Found) -> bool
+fn is_link_left(old: &FoundLink, new: &FoundLink) -> bool
     requires kind { new.now.kind ≡ old.now.kind }
     requires place { new.now.place ≡ old.now.place }
     ensures left { result ≡ true → IsLinkLeft old.now new.now }
@@ -38,7 +38,11 @@ fn is_link_left(old: &Found, new: &Found) -> bool
 }
 
 /// Whether a link is the other one, changed.
-fn is_link_anew<P: PageChange>(changes: &P, old: &Found, new: &Found) -> Result<bool, AllocError>
+fn is_link_anew<P: PageChange>(
+    changes: &P,
+    old: &FoundLink,
+    new: &FoundLink,
+) -> Result<bool, AllocError>
     requires kind { new.now.kind ≡ old.now.kind }
     requires place { new.now.place ≡ old.now.place }
     ensures changed { IfOk result (λ is. is ≡ true → IsLinkChanged (P.becomes changes.now) (P.known changes.now) old.now new.now) }
@@ -53,7 +57,11 @@ fn is_link_anew<P: PageChange>(changes: &P, old: &Found, new: &Found) -> Result<
 }
 
 /// Whether a link is the other one, changed, or left for its text.
-fn is_link_changed<P: PageChange>(changes: &P, old: &Found, new: &Found) -> Result<bool, AllocError>
+fn is_link_changed<P: PageChange>(
+    changes: &P,
+    old: &FoundLink,
+    new: &FoundLink,
+) -> Result<bool, AllocError>
     ensures changed { IfOk result (λ is. is ≡ true → IsLinkChanged (P.becomes changes.now) (P.known changes.now) old.now new.now ⊎ IsLinkLeft old.now new.now) }
     ensures differs { IfOk result (λ is. is ≡ false → IsLinkChanged (P.becomes changes.now) (P.known changes.now) old.now new.now ⊎ IsLinkLeft old.now new.now → ⊥) }
 {
@@ -69,8 +77,8 @@ fn is_link_changed<P: PageChange>(changes: &P, old: &Found, new: &Found) -> Resu
 /// Whether these links are the other ones, changed.
 fn are_links_changed<P: PageChange>(
     changes: &P,
-    old: &[Found],
-    new: &[Found],
+    old: &[FoundLink],
+    new: &[FoundLink],
 ) -> Result<bool, AllocError>
     ensures changed { IfOk result (λ are. are ≡ true → AreLinksChanged (P.becomes changes.now) (P.known changes.now) old.now new.now) }
     ensures differ { IfOk result (λ are. are ≡ false → AreLinksChanged (P.becomes changes.now) (P.known changes.now) old.now new.now → ⊥) }

@@ -7,17 +7,17 @@ ghost use Rattle.page_links.specs.Rewriting.{IsAnew, AreChanged, ReadsOtherwise}
 use crate::comparing::are_changed;
 use crate::page_change::PageChange;
 use crate::writer::Writer;
-use html_links::{Memory, Scan, Scanner, Syntax};
+use html_links::{HtmlScanner, OutOfMemory, Scan, Syntax};
 use std::alloc::{AllocError, Global};
 
 /// What is found in a body of that syntax.
 ///
 /// # Errors
-/// `Memory` if a growth is refused.
-pub fn scan(alloc: Global, syntax: Syntax, body: &[u8]) -> Result<Scan, Memory>
+/// `OutOfMemory` if a growth is refused.
+pub fn scan(alloc: Global, syntax: Syntax, body: &[u8]) -> Result<Scan, OutOfMemory>
     ensures { IfOk result (λ scan. scanned scan ≡ links_of_body syntax body.now) }
 {
-    let mut scanner = Scanner::with_syntax(alloc, syntax);
+    let mut scanner = HtmlScanner::with_syntax(alloc, syntax);
     scanner.feed(body)?;
     scanner.finish()
 }
@@ -35,14 +35,14 @@ pub fn stays<P: PageChange>(changes: &P, found: &Scan) -> Result<bool, AllocErro
 /// [`scan`] finds in the page.
 ///
 /// # Errors
-/// `Memory` if a growth is refused.
+/// `OutOfMemory` if a growth is refused.
 pub fn rewrite<P: PageChange>(
     alloc: Global,
     changes: &P,
     syntax: Syntax,
     page: &[u8],
     found: &Scan,
-) -> Result<Option<Vec<u8>>, Memory>
+) -> Result<Option<Vec<u8>>, OutOfMemory>
     requires { scanned found.now ≡ links_of_body syntax page.now }
     ensures refused { IfOk result (λ other. MatchOption other (ReadsOtherwise (P.becomes changes.now) (P.known changes.now) syntax page.now) (λ other. Unit {0})) }
     ensures kept { IfOk result (λ other. MatchOption other (Unit {0}) (λ other. IsAnew (P.becomes changes.now) syntax page.now other.items)) }

@@ -9,16 +9,16 @@ use crate::comparing::is_changed;
 use crate::page_change::PageChange;
 use crate::value::sheet_anew;
 use css_links::Found;
-use html_links::{Memory, ValueForm};
+use html_links::{OutOfMemory, ValueForm};
 use std::alloc::{AllocError, Global};
 
 /// The references of a style sheet.
-fn scan_sheet(alloc: Global, sheet: &[u8]) -> Result<Vec<Found>, Memory>
+fn scan_sheet(alloc: Global, sheet: &[u8]) -> Result<Vec<Found>, OutOfMemory>
     ensures { IfOk result (λ found. found.items ≡ references sheet.now) }
 {
     match css_links::scan(alloc, sheet) {
         Ok(found) => Ok(found),
-        Err(_) => Err(Memory),
+        Err(_) => Err(OutOfMemory),
     }
 }
 
@@ -54,12 +54,12 @@ fn are_references_changed<P: PageChange>(
 /// stay as it is.
 ///
 /// # Errors
-/// `Memory` if a growth is refused.
+/// `OutOfMemory` if a growth is refused.
 pub fn rewrite_sheet<P: PageChange>(
     alloc: Global,
     changes: &P,
     sheet: &[u8],
-) -> Result<Option<Vec<u8>>, Memory>
+) -> Result<Option<Vec<u8>>, OutOfMemory>
     ensures kept { IfOk result (λ other. MatchOption other (Unit {0}) (λ other. sheets.IsAnew (P.becomes changes.now Sheet) sheet.now other.items)) }
     ensures references { IfOk result (λ other. MatchOption other (Unit {0}) (λ other. AreReferencesChanged (P.becomes changes.now Sheet) (P.known changes.now Sheet) (references sheet.now) (references other.items))) }
 {

@@ -2,7 +2,7 @@
 ghost use Rattle.std.specs.Prelude.{◌≡◌, ◌≤◌, false, length};
 ghost use Rattle.page_links.specs.Unclear.{ends_name, begins_number, is_reference, has_reference, is_replacement, has_replacement, is_unclear};
 
-use html_links::{Memory, value_text};
+use html_links::{OutOfMemory, value_text};
 use memchr::memchr;
 use std::alloc::Global;
 
@@ -100,7 +100,7 @@ fn reference_len(text: &[u8]) -> usize
 }
 
 /// Whether a text that begins with an `&`, which these others follow, begins with a character reference by its looks that isn't read as one.
-fn is_unread(alloc: Global, text: &[u8], others: &[u8]) -> Result<bool, Memory> {
+fn is_unread(alloc: Global, text: &[u8], others: &[u8]) -> Result<bool, OutOfMemory> {
     if !is_reference(others) {
         return Ok(false);
     }
@@ -115,8 +115,8 @@ fn is_unread(alloc: Global, text: &[u8], others: &[u8]) -> Result<bool, Memory> 
 /// Whether it isn't known what a value says.
 ///
 /// # Errors
-/// `Memory` if a growth is refused.
-pub(crate) fn is_unclear_value(alloc: Global, value: &[u8]) -> Result<bool, Memory> {
+/// `OutOfMemory` if a growth is refused.
+pub(crate) fn is_unclear_value(alloc: Global, value: &[u8]) -> Result<bool, OutOfMemory> {
     if std::str::from_utf8(value).is_err() {
         return Ok(true);
     }

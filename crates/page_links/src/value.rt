@@ -7,7 +7,7 @@ ghost use Rattle.page_links.specs.Rewriting.{text_anew, IsWritten};
 
 use crate::page_change::{InForm, PageChange};
 use crate::unclear::is_unclear_value;
-use html_links::{Memory, ValueForm, escape, value_text};
+use html_links::{OutOfMemory, ValueForm, escape, value_text};
 use std::alloc::Global;
 
 /// The text of a value that is the base or a link, changed.
@@ -16,7 +16,7 @@ fn address_anew<P: PageChange>(
     changes: &P,
     form: ValueForm,
     text: &str,
-) -> Result<Vec<u8>, Memory>
+) -> Result<Vec<u8>, OutOfMemory>
     ensures { IfOk result (λ anew. anew.items ≡ changed (P.becomes changes.now form) text.now) }
 {
     match changes.change(form, text)? {
@@ -30,12 +30,12 @@ pub(crate) fn sheet_anew<P: PageChange>(
     alloc: Global,
     changes: &P,
     sheet: &[u8],
-) -> Result<Vec<u8>, Memory>
+) -> Result<Vec<u8>, OutOfMemory>
     ensures { IfOk result (λ anew. anew.items ≡ sheets.rewritten (P.becomes changes.now Sheet) sheet.now) }
 {
     match css_links::rewrite(alloc, &InForm::new(changes, ValueForm::Sheet), sheet) {
         Ok(anew) => Ok(anew),
-        Err(_) => Err(Memory),
+        Err(_) => Err(OutOfMemory),
     }
 }
 
@@ -45,7 +45,7 @@ fn text_anew<P: PageChange>(
     changes: &P,
     form: ValueForm,
     text: &str,
-) -> Result<Vec<u8>, Memory>
+) -> Result<Vec<u8>, OutOfMemory>
     ensures { IfOk result (λ anew. anew.items ≡ text_anew (P.becomes changes.now) form text.now) }
 {
     match form {
@@ -75,7 +75,7 @@ pub(crate) fn value_anew<P: PageChange>(
     changes: &P,
     form: ValueForm,
     value: &[u8],
-) -> Result<Option<Vec<u8>>, Memory>
+) -> Result<Option<Vec<u8>>, OutOfMemory>
     ensures { IfOk result (λ other. MatchOption other (Unit {0}) (λ other. IsWritten (P.becomes changes.now) form value.now other.items)) }
 {
     if has_one_link(form) && is_unclear_value(alloc, value)? {

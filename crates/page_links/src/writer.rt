@@ -3,7 +3,7 @@ ghost use Rattle.std.specs.Prelude.{◌≡◌, ◌++◌, [], ◌≤◌, ◌<◌,
 ghost use Rattle.html_links.specs.Scanning.{StandsFor};
 ghost use Rattle.html_links.specs.Awaiting.{Awaits};
 ghost use Rattle.html_links.specs.declared.context.Syntax.{Syntax};
-ghost use Rattle.html_links.specs.declared.lexer.Mode.TheVariants.{InSheet};
+ghost use Rattle.html_links.specs.declared.lexer.TokenizerState.TheVariants.{InSheet};
 ghost use Rattle.page_links.specs.Rewriting.{IsAnew, IsAt};
 
 use crate::bytes::{is_white, run_len};
@@ -11,14 +11,14 @@ use crate::cut::cut_value;
 use crate::page_change::PageChange;
 use crate::sheet::{fits, split_sheet};
 use crate::value::{sheet_anew, value_anew};
-use html_links::{Memory, Scanner, Syntax, ValueForm};
+use html_links::{HtmlScanner, OutOfMemory, Syntax, ValueForm};
 use std::alloc::Global;
 
 /// What was written of a page, and a scanner that has read it.
 #[derive(Drop)]
 pub(crate) struct Writer {
     alloc: Global,
-    pub(crate) scanner: Scanner,
+    pub(crate) scanner: HtmlScanner,
     pub(crate) out: Vec<u8>,
 }
 
@@ -30,13 +30,13 @@ impl Writer {
     {
         Writer {
             alloc,
-            scanner: Scanner::with_syntax(alloc, syntax),
+            scanner: HtmlScanner::with_syntax(alloc, syntax),
             out: Vec::new(alloc),
         }
     }
 
     /// Writes bytes.
-    fn put(&mut self, bytes: &[u8]) -> Result<(), Memory>
+    fn put(&mut self, bytes: &[u8]) -> Result<(), OutOfMemory>
         ensures out { OnOk result (self.new.out.items ≡ self.old.out.items ++ bytes.now) }
         ensures stands { OnOk result ((syntax : Syntax) → StandsFor syntax self.old.scanner self.old.out.items → StandsFor syntax self.new.scanner self.new.out.items) }
     {
@@ -46,7 +46,11 @@ impl Writer {
     }
 
     /// Writes bytes of the page as they are, up to where a value may be awaited. Gives what is left.
-    fn copy<'a, P: PageChange>(&mut self, changes: &P, left: &'a [u8]) -> Result<&'a [u8], Memory>
+    fn copy<'a, P: PageChange>(
+        &mut self,
+        changes: &P,
+        left: &'a [u8],
+    ) -> Result<&'a [u8], OutOfMemory>
         ensures at { IfOk result (λ rest. (syntax : Syntax) (page : List ℕ) → IsAt (P.becomes changes.now) syntax page self.old.scanner self.old.out.items left.now → IsAt (P.becomes changes.now) syntax page self.new.scanner self.new.out.items rest.now) }
         ensures within { IfOk result (λ rest. length rest.now ≤ length left.now) }
         ensures shorter { IfOk result (λ rest. 1 ≤ length left.now → length rest.now < length left.now) }
@@ -62,7 +66,7 @@ impl Writer {
         changes: &P,
         form: ValueForm,
         left: &'a [u8],
-    ) -> Result<&'a [u8], Memory>
+    ) -> Result<&'a [u8], OutOfMemory>
         requires { Awaits self.old.scanner left.now form }
         ensures at { IfOk result (λ rest. (syntax : Syntax) (page : List ℕ) → IsAt (P.becomes changes.now) syntax page self.old.scanner self.old.out.items left.now → IsAt (P.becomes changes.now) syntax page self.new.scanner self.new.out.items rest.now) }
         ensures within { IfOk result (λ rest. length rest.now ≤ length left.now) }
@@ -83,7 +87,7 @@ impl Writer {
         &mut self,
         changes: &P,
         left: &'a [u8],
-    ) -> Result<&'a [u8], Memory>
+    ) -> Result<&'a [u8], OutOfMemory>
         requires { self.old.scanner.lexer.mode ≡ InSheet }
         ensures at { IfOk result (λ rest. (syntax : Syntax) (page : List ℕ) → IsAt (P.becomes changes.now) syntax page self.old.scanner self.old.out.items left.now → IsAt (P.becomes changes.now) syntax page self.new.scanner self.new.out.items rest.now) }
         ensures within { IfOk result (λ rest. length rest.now ≤ length left.now) }
@@ -103,7 +107,7 @@ impl Writer {
         &mut self,
         changes: &P,
         left: &'a [u8],
-    ) -> Result<&'a [u8], Memory>
+    ) -> Result<&'a [u8], OutOfMemory>
         ensures at { IfOk result (λ rest. (syntax : Syntax) (page : List ℕ) → IsAt (P.becomes changes.now) syntax page self.old.scanner self.old.out.items left.now → IsAt (P.becomes changes.now) syntax page self.new.scanner self.new.out.items rest.now) }
         ensures within { IfOk result (λ rest. length rest.now ≤ length left.now) }
     {
@@ -126,7 +130,11 @@ impl Writer {
     }
 
     /// Writes the page.
-    pub(crate) fn write<P: PageChange>(&mut self, changes: &P, page: &[u8]) -> Result<(), Memory>
+    pub(crate) fn write<P: PageChange>(
+        &mut self,
+        changes: &P,
+        page: &[u8],
+    ) -> Result<(), OutOfMemory>
         requires { self.old.out.items ≡ [] }
         ensures { OnOk result ((syntax : Syntax) → StandsFor syntax self.old.scanner self.old.out.items → IsAt (P.becomes changes.now) syntax page.now self.new.scanner self.new.out.items []) }
     {

@@ -11,7 +11,7 @@ mod parts_dir;
 
 pub use file_time::time_of;
 pub use own_dir::{OwnDir, make_own_dir};
-pub use part::{Part, Standing, part_path};
+pub use part::{KeptPart, Standing, part_path};
 pub use part_counter::PartCounter;
 pub use part_keeper::PartKeeper;
 pub use parts_dir::{PartsDir, lacks_descriptor};

@@ -19,7 +19,7 @@ pub enum Standing {
 
 /// A body that a worker kept in a file of its own.
 #[derive(Clone, Copy, Debug, PartialEq, Eq)]
-pub struct Part {
+pub struct KeptPart {
     /// The worker's number.
     pub worker: u32,
     /// The number of the file among the worker's, or, of a part that was lost, of the reason.

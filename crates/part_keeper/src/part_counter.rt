@@ -1,7 +1,7 @@
 //! What keeps no body, and counts its bytes.
 ghost use Rattle.std.specs.Prelude.{◌≡◌, ◌+◌, ℕ, List, length, OnOk, IfOk};
 
-use crate::part::{Part, Standing};
+use crate::part::{KeptPart, Standing};
 use kept_bodies::{BodyKind, Keeper};
 use std::alloc::AllocError;
 
@@ -19,7 +19,7 @@ impl PartCounter {
 }
 
 impl Keeper for PartCounter {
-    type Kept = Part;
+    type Kept = KeptPart;
 
     ghost use Rattle.part_keeper.specs.Parts.{holds_received};
 
@@ -41,8 +41,8 @@ impl Keeper for PartCounter {
         Ok(())
     }
 
-    fn finish(&mut self, kind: BodyKind) -> Result<Part, AllocError> {
-        Ok(Part {
+    fn finish(&mut self, kind: BodyKind) -> Result<KeptPart, AllocError> {
+        Ok(KeptPart {
             worker: u32::MAX,
             number: u32::MAX,
             kind,
@@ -52,8 +52,8 @@ impl Keeper for PartCounter {
         })
     }
 
-    fn empty(&mut self) -> Result<Part, AllocError> {
-        Ok(Part {
+    fn empty(&mut self) -> Result<KeptPart, AllocError> {
+        Ok(KeptPart {
             worker: u32::MAX,
             number: u32::MAX,
             kind: BodyKind::Other,

@@ -2,7 +2,7 @@
 ghost use Rattle.std.specs.Prelude.{◌≡◌, ◌+◌, ℕ, List, length, OnOk, IfOk, OnErr};
 
 use crate::file_time::{file_time, set_time};
-use crate::part::{Part, Standing, part_path};
+use crate::part::{KeptPart, Standing, part_path};
 use crate::parts_dir::{PartsDir, WorkerDir, lacks_descriptor};
 use kept_bodies::{BodyKind, Keeper};
 use std::alloc::{AllocError, Global};
@@ -216,7 +216,7 @@ impl<'a, R: Files + Wait> Keeper for PartKeeper<'a, R>
 where
     R::File: Close + Lock,
 {
-    type Kept = Part;
+    type Kept = KeptPart;
 
     ghost use Rattle.part_keeper.specs.Parts.{holds_received};
 
@@ -249,9 +249,9 @@ where
         self.keep(piece)
     }
 
-    fn finish(&mut self, kind: BodyKind) -> Result<Part, AllocError> {
+    fn finish(&mut self, kind: BodyKind) -> Result<KeptPart, AllocError> {
         let standing = self.end()?;
-        let mut part = Part {
+        let mut part = KeptPart {
             worker: self.worker,
             number: self.number,
             kind,
@@ -266,8 +266,8 @@ where
         Ok(part)
     }
 
-    fn empty(&mut self) -> Result<Part, AllocError> {
-        Ok(Part {
+    fn empty(&mut self) -> Result<KeptPart, AllocError> {
+        Ok(KeptPart {
             worker: self.worker,
             number: self.number,
             kind: BodyKind::Other,

@@ -1,7 +1,7 @@
 //! Where the keepers of a run put bodies until these get their names.
 use crate::file_time::set_time;
 use crate::own_dir::{OwnDir, make_own_dir};
-use crate::part::{Part, Standing};
+use crate::part::{KeptPart, Standing};
 use std::alloc::{AllocError, Global};
 use std::fs::{File, Files};
 use std::io::{ErrorKind, Write};
@@ -251,7 +251,7 @@ impl<F: Lock + Close + Drop> PartsDir<F> {
     }
 
     /// Why this part was lost, if it was and nobody asked before.
-    pub fn reason<R: Wait>(&self, rt: &R, part: &Part) -> Option<io::Error> {
+    pub fn reason<R: Wait>(&self, rt: &R, part: &KeptPart) -> Option<io::Error> {
         match part.standing {
             Standing::Lost => take_reason(&mut self.made.lock(rt), part.number as usize),
             Standing::Whole | Standing::Named | Standing::Waiting | Standing::Absent => None,

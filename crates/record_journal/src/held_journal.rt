@@ -1,6 +1,6 @@
 //! A journal that is held, and that nothing was added to yet.
 use crate::disk_journal::DiskJournal;
-use crate::journal_fault::JournalFault;
+use crate::journal_fault::OpenJournalFault;
 use crate::tail::Tail;
 use site_records::write_record;
 use std::alloc::Global;
@@ -40,17 +40,21 @@ pub(crate) fn is_at<D: Files>(disk: &D, file: &D::File, path: &str) -> io::Resul
 }
 
 // Writes the first line of a record, and gives its length in bytes.
-fn write_first_line<W: Write>(alloc: Global, file: &mut W) -> Result<u64, JournalFault> {
+fn write_first_line<W: Write>(alloc: Global, file: &mut W) -> Result<u64, OpenJournalFault> {
     let mut line = Vec::new(alloc);
     if write_record(alloc, &mut line, &[]).is_err() {
-        return Err(JournalFault::Memory);
+        return Err(OpenJournalFault::Memory);
     }
     file.write_all(line.as_slice())?;
     Ok(line.len() as u64)
 }
 
 // Cuts a journal to this many bytes, and writes the first line if none is left. Returns how many bytes it has then.
-fn cut<F: Write + OpenFile>(alloc: Global, file: &mut F, whole: u64) -> Result<u64, JournalFault> {
+fn cut<F: Write + OpenFile>(
+    alloc: Global,
+    file: &mut F,
+    whole: u64,
+) -> Result<u64, OpenJournalFault> {
     file.set_len(whole)?;
     if whole > 0 {
         return Ok(whole);
@@ -61,7 +65,11 @@ fn cut<F: Write + OpenFile>(alloc: Global, file: &mut F, whole: u64) -> Result<u
 impl<D: Files> HeldJournal<D> {
     /// Opens `SAVED.journal` beside the file of a record, and holds it; it is made if nothing is there, and what it has
     /// stays.
-    pub(crate) fn open(disk: &D, alloc: Global, saved: &str) -> Result<HeldJournal<D>, JournalFault>
+    pub(crate) fn open(
+        disk: &D,
+        alloc: Global,
+        saved: &str,
+    ) -> Result<HeldJournal<D>, OpenJournalFault>
     where
         D::File: Lock,
     {
@@ -73,7 +81,7 @@ impl<D: Files> HeldJournal<D> {
             .create(true)
             .open(disk, path.as_str())?;
         if !file.hold()? || !is_at(disk, &file, path.as_str())? {
-            return Err(JournalFault::Held);
+            return Err(OpenJournalFault::Held);
         }
         Ok(HeldJournal { path, file, is_new })
     }

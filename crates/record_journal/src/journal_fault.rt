@@ -4,7 +4,7 @@ use std::io;
 
 /// Why a journal isn't to be had.
 #[derive(Clone, Copy)]
-pub(crate) enum JournalFault {
+pub(crate) enum OpenJournalFault {
     /// Another run holds it.
     Held,
     /// It can't be opened, locked, read or written.
@@ -13,14 +13,14 @@ pub(crate) enum JournalFault {
     Memory,
 }
 
-impl From<io::Error> for JournalFault {
-    fn from(_: io::Error) -> JournalFault {
-        JournalFault::Device
+impl From<io::Error> for OpenJournalFault {
+    fn from(_: io::Error) -> OpenJournalFault {
+        OpenJournalFault::Device
     }
 }
 
-impl From<AllocError> for JournalFault {
-    fn from(_: AllocError) -> JournalFault {
-        JournalFault::Memory
+impl From<AllocError> for OpenJournalFault {
+    fn from(_: AllocError) -> OpenJournalFault {
+        OpenJournalFault::Memory
     }
 }

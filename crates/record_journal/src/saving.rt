@@ -1,7 +1,7 @@
 //! Where a run saves its answers, and what an earlier run left there.
 use crate::disk_journal::DiskJournal;
 use crate::held_journal::{HeldJournal, look_for_file};
-use crate::journal_fault::JournalFault;
+use crate::journal_fault::OpenJournalFault;
 use crate::saved_file::can_be_made;
 use answer_notes::{Noted, Told};
 use html_links::LinkRules;
@@ -401,12 +401,12 @@ impl<D: Files> Saving<D> {
         refuse_other(rt, disk, saved, resumed)?;
         match HeldJournal::open(disk, alloc, saved) {
             Ok(held) => self.begin(rt, alloc, held, saved, resumed),
-            Err(JournalFault::Memory) => Err(SaveFault::Memory),
-            Err(JournalFault::Held) => {
+            Err(OpenJournalFault::Memory) => Err(SaveFault::Memory),
+            Err(OpenJournalFault::Held) => {
                 let _ = eprintln!(rt; "{saved}: another run saves there");
                 Err(SaveFault::Refused)
             }
-            Err(JournalFault::Device) => {
+            Err(OpenJournalFault::Device) => {
                 refuse_unmade(rt, disk, alloc, saved)?;
                 let _ = eprintln!(rt;
                     "{saved}.journal: can't be opened; answers are kept in memory, and lost if this run is killed"

@@ -5,10 +5,10 @@ use Rattle.std.specs.List.{list_all}
 use Rattle.css_links.specs.Rewriting.{Change, or_same, changed}
 use Rattle.refresh_links.specs.Refresh.{is_white, is_quote, is_time, separates, quote_or_url, url_begins, quoted, turn, Front, front, reference, turned, step, nothing_read, fed, ended_in, ended, reference_of}
 use Rattle.refresh_links.specs.Rewriting.{is_unquoted, is_unequal, IsWritable, CanBeUrl, IsWriting, written_or, anew, Rewrite, out_of, rewrite_step, nothing_written, rewrite_fed, closed, rewrite_ended, rewritten}
-use Rattle.refresh_links.specs.declared.place.Turn.{Turn}
-use Rattle.refresh_links.specs.declared.place.Turn.TheVariants.{At, First, With, End}
-use Rattle.refresh_links.specs.declared.place.Place.{Place}
-use Rattle.refresh_links.specs.declared.place.Place.TheVariants.{Start, Time, Behind, Before, U, R, L, Equals, Url, Quoted, Done, Bad}
+use Rattle.refresh_links.specs.declared.place.ContentTurn.{ContentTurn}
+use Rattle.refresh_links.specs.declared.place.ContentTurn.TheVariants.{At, First, With, End}
+use Rattle.refresh_links.specs.declared.place.ContentPlace.{ContentPlace}
+use Rattle.refresh_links.specs.declared.place.ContentPlace.TheVariants.{Start, Time, Behind, Before, U, R, L, Equals, Url, Quoted, Done, Bad}
 
 fed-append : (s : Front) (xs ys : List ℕ) → fed s (xs ++ ys) ≡ fed (fed s xs) ys
 fed-append s [] ys = refl
@@ -22,7 +22,7 @@ pub data Zone : Type 0 where
   Open : Zone
   In : ℕ → Zone
 
-abbrev pub zone : Place → Zone
+abbrev pub zone : ContentPlace → Zone
 zone Start = Out
 zone Time = Out
 zone Behind = Out
@@ -37,7 +37,7 @@ zone Done = Out
 zone Bad = Out
 
 -- a place in which a URL without quotes may begin
-abbrev pub Begins : Place → Type 0
+abbrev pub Begins : ContentPlace → Type 0
 Begins Behind = Unit
 Begins Before = Unit
 Begins Equals = Unit
@@ -53,7 +53,7 @@ MoveFirst Out = ⊥
 MoveFirst Open = Unit
 MoveFirst (In quote) = ⊥
 
-abbrev pub MoveWith : Zone → Zone → Place → Type 0
+abbrev pub MoveWith : Zone → Zone → ContentPlace → Type 0
 MoveWith Open Open q = Unit
 MoveWith (In quote) (In other) q = q ≡ Quoted quote
 MoveWith _ _ q = ⊥
@@ -63,23 +63,23 @@ MoveEnd Out b = ⊥
 MoveEnd Open b = ⊥
 MoveEnd (In quote) b = b ≡ quote
 
-abbrev pub Move : Place → ℕ → Turn → Type 0
+abbrev pub Move : ContentPlace → ℕ → ContentTurn → Type 0
 Move p b (At q) = MoveAt (zone q)
 Move p b (First q) = Begins p × MoveFirst (zone q)
 Move p b (With q) = MoveWith (zone p) (zone q) q
 Move p b End = MoveEnd (zone p) b
 
-if_move : (p : Place) (b : ℕ) (c : Bool) (x y : Turn) → (c ≡ true → Move p b x) → (c ≡ false → Move p b y) → Move p b (if c then x else y)
+if_move : (p : ContentPlace) (b : ℕ) (c : Bool) (x y : ContentTurn) → (c ≡ true → Move p b x) → (c ≡ false → Move p b y) → Move p b (if c then x else y)
 if_move p b true x y h k = h refl
 if_move p b false x y h k = k refl
 
-quote_moves : (p : Place) (b : ℕ) → Begins p → Move p b (quote_or_url b)
+quote_moves : (p : ContentPlace) (b : ℕ) → Begins p → Move p b (quote_or_url b)
 quote_moves p b m = if_move p b (is_quote b) (At (Quoted b)) (First Url) (λ e. e) (λ _. (m, tt))
 
-begin_moves : (p : Place) (b : ℕ) → Begins p → Move p b (url_begins b)
+begin_moves : (p : ContentPlace) (b : ℕ) → Begins p → Move p b (url_begins b)
 begin_moves p b m = if_move p b (b == 117 || b == 85) (First U) (quote_or_url b) (λ _. (m, tt)) (λ _. quote_moves p b m)
 
-pub moves : (p : Place) (b : ℕ) → Move p b (turn p b)
+pub moves : (p : ContentPlace) (b : ℕ) → Move p b (turn p b)
 moves Start b = if_move Start b (is_white b) (At Start) (if is_time b then At Time else At Bad) (λ _. tt) (λ _. if_move Start b (is_time b) (At Time) (At Bad) (λ _. tt) (λ _. tt))
 moves Time b =
     if_move Time b (is_time b) (At Time) (if is_white b then At Behind else if separates b then At Before else At Bad) (λ _. tt)
@@ -151,20 +151,20 @@ in_u raw found (b ∷ bs) h = go (b == 114 || b == 82) ∙ ap (λ t. Some (refer
   go false = in_url (raw ++ b ∷ []) found bs
 
 -- a text that can be a URL, where one may begin
-from_quote_or_url : (p : Place) (found : Option (List ℕ)) (b : ℕ) (bs : List ℕ) → is_quote b ≡ false → ended (fed (turned (front p [] found) b (quote_or_url b)) bs) ≡ Some (reference (b ∷ bs))
+from_quote_or_url : (p : ContentPlace) (found : Option (List ℕ)) (b : ℕ) (bs : List ℕ) → is_quote b ≡ false → ended (fed (turned (front p [] found) b (quote_or_url b)) bs) ≡ Some (reference (b ∷ bs))
 from_quote_or_url p found b bs e = go (is_quote b) e where
   go : (t : Bool) → t ≡ false → ended (fed (turned (front p [] found) b (if t then At (Quoted b) else First Url)) bs) ≡ Some (reference (b ∷ bs))
   go true e = absurd (cc)
   go false e = in_url (b ∷ []) found bs
 
-from_begins : (p : Place) (found : Option (List ℕ)) (b : ℕ) (bs : List ℕ) → IsWritable b bs → ended (fed (turned (front p [] found) b (url_begins b)) bs) ≡ Some (reference (b ∷ bs))
+from_begins : (p : ContentPlace) (found : Option (List ℕ)) (b : ℕ) (bs : List ℕ) → IsWritable b bs → ended (fed (turned (front p [] found) b (url_begins b)) bs) ≡ Some (reference (b ∷ bs))
 from_begins p found b bs w = go (b == 117 || b == 85) w.unequal where
   go : (t : Bool) → ((t ≡ false) ⊎ (list_all is_unequal bs ≡ true)) → ended (fed (turned (front p [] found) b (if t then First U else quote_or_url b)) bs) ≡ Some (reference (b ∷ bs))
   go true (inl e) = absurd (cc)
   go true (inr h) = in_u (b ∷ []) found bs h
   go false h = from_quote_or_url p found b bs (not_true (is_quote b) (both (is_unquoted b) (list_all is_unquoted bs) w.unquoted).0)
 
-writes : (p : Place) (found : Option (List ℕ)) (b : ℕ) (bs : List ℕ) → Begins p → IsWritable b bs → ended (fed (front p [] found) (b ∷ bs)) ≡ Some (reference (b ∷ bs))
+writes : (p : ContentPlace) (found : Option (List ℕ)) (b : ℕ) (bs : List ℕ) → Begins p → IsWritable b bs → ended (fed (front p [] found) (b ∷ bs)) ≡ Some (reference (b ∷ bs))
 writes Start found b bs m w = absurd m
 writes Time found b bs m w = absurd m
 writes Behind found b bs m w = go (is_white b) (separates b) w.black w.own where
@@ -196,7 +196,7 @@ mapped change f = front f.place f.raw (option_map (changed change) f.found)
 
 -- where a URL begins that is being read
 pub record Opened (change : Change) (f : Front) (out : List ℕ) : Type 0 where
-  pub place : Place
+  pub place : ContentPlace
   pub begins : Begins place
   pub behind : fed nothing_read out ≡ front place [] (option_map (changed change) f.found)
 
@@ -211,12 +211,12 @@ pub record Keeps (change : Change) (f : Front) (out : List ℕ) : Type 0 where
   pub behind : fed nothing_read (out ++ f.raw) ≡ mapped change f
   pub good : Good change (zone f.place) f out
 
-read_on : (change : Change) (f : Front) (out : List ℕ) (b : ℕ) (t : Turn) → turn f.place b ≡ t → Keeps change f out
+read_on : (change : Change) (f : Front) (out : List ℕ) (b : ℕ) (t : ContentTurn) → turn f.place b ≡ t → Keeps change f out
     → fed nothing_read (out ++ (f.raw ++ b ∷ [])) ≡ turned (mapped change f) b t
 read_on change f out b t e k =
     ap (fed nothing_read) (sym (append_assoc out f.raw (b ∷ []))) ∙ fed-append nothing_read (out ++ f.raw) (b ∷ []) ∙ ap (λ s. step s b) k.behind ∙ ap (turned (mapped change f) b) e
 
-quoted_place : (q : Place) (quote : ℕ) → zone q ≡ In quote → q ≡ Quoted quote
+quoted_place : (q : ContentPlace) (quote : ℕ) → zone q ≡ In quote → q ≡ Quoted quote
 quoted_place Start quote e = absurd (cc)
 quoted_place Time quote e = absurd (cc)
 quoted_place Behind quote e = absurd (cc)
@@ -236,7 +236,7 @@ quoted_place (Quoted other) quote e = ap Quoted (inner other quote e) where
 quoted_place Done quote e = absurd (cc)
 quoted_place Bad quote e = absurd (cc)
 
-at_keeps : (change : Change) (f : Front) (out : List ℕ) (b : ℕ) (q : Place) → turn f.place b ≡ At q → MoveAt (zone q) → Keeps change f out → Keeps change (front q [] f.found) (out ++ (f.raw ++ b ∷ []))
+at_keeps : (change : Change) (f : Front) (out : List ℕ) (b : ℕ) (q : ContentPlace) → turn f.place b ≡ At q → MoveAt (zone q) → Keeps change f out → Keeps change (front q [] f.found) (out ++ (f.raw ++ b ∷ []))
 at_keeps change f out b q e m k = record {
   behind = ap (fed nothing_read) (append-nil (out ++ (f.raw ++ b ∷ []))) ∙ read_on change f out b (At q) e k;
   good = good (zone q) refl m;
@@ -246,7 +246,7 @@ at_keeps change f out b q e m k = record {
   good Open h m = absurd m
   good (In quote) h m = (m, read_on change f out b (At q) e k ∙ ap (λ p. front p [] (option_map (changed change) f.found)) (quoted_place q quote h))
 
-begins_out : (p : Place) → Begins p → zone p ≡ Out
+begins_out : (p : ContentPlace) → Begins p → zone p ≡ Out
 begins_out Start m = absurd m
 begins_out Time m = absurd m
 begins_out Behind m = refl
@@ -260,7 +260,7 @@ begins_out (Quoted quote) m = absurd m
 begins_out Done m = absurd m
 begins_out Bad m = absurd m
 
-first_keeps : (change : Change) (f : Front) (out : List ℕ) (b : ℕ) (q : Place) → turn f.place b ≡ First q → Begins f.place → MoveFirst (zone q) → Keeps change f out → Keeps change (front q (b ∷ []) f.found) out
+first_keeps : (change : Change) (f : Front) (out : List ℕ) (b : ℕ) (q : ContentPlace) → turn f.place b ≡ First q → Begins f.place → MoveFirst (zone q) → Keeps change f out → Keeps change (front q (b ∷ []) f.found) out
 first_keeps change f out b q e p m k = record {
   behind = ap (λ xs. fed nothing_read (out ++ (xs ++ b ∷ []))) (sym nothing) ∙ read_on change f out b (First q) e k;
   good = good (zone q) m;
@@ -281,7 +281,7 @@ first_keeps change f out b q e p m k = record {
   }
   good (In quote) m = absurd m
 
-with_keeps : (change : Change) (f : Front) (out : List ℕ) (b : ℕ) (q : Place) → turn f.place b ≡ With q → MoveWith (zone f.place) (zone q) q → Keeps change f out → Keeps change (front q (f.raw ++ b ∷ []) f.found) out
+with_keeps : (change : Change) (f : Front) (out : List ℕ) (b : ℕ) (q : ContentPlace) → turn f.place b ≡ With q → MoveWith (zone f.place) (zone q) q → Keeps change f out → Keeps change (front q (f.raw ++ b ∷ []) f.found) out
 with_keeps change f out b q e m k = record {
   behind = read_on change f out b (With q) e k;
   good = good (zone f.place) (zone q) refl m k.good;
@@ -305,7 +305,7 @@ unquoted_written : (text : List ℕ) → CanBeUrl text → list_all is_unquoted 
 unquoted_written [] w = absurd w
 unquoted_written (b ∷ bs) w = w.unquoted
 
-open_written : (p : Place) (found : Option (List ℕ)) (text : List ℕ) → Begins p → CanBeUrl text → ended (fed (front p [] found) text) ≡ Some (reference text)
+open_written : (p : ContentPlace) (found : Option (List ℕ)) (text : List ℕ) → Begins p → CanBeUrl text → ended (fed (front p [] found) text) ≡ Some (reference text)
 open_written p found [] m w = absurd w
 open_written p found (b ∷ bs) m w = writes p found b bs m w
 
@@ -334,7 +334,7 @@ end_keeps change writing f out b e m k = record {
 
 keeps_step : (change : Change) → IsWriting change → (w : Rewrite) (b : ℕ) → Keeps change w.front w.out → Keeps change (rewrite_step change w b).front (rewrite_step change w b).out
 keeps_step change writing w b k = go (turn w.front.place b) refl (moves w.front.place b) where
-  go : (t : Turn) → turn w.front.place b ≡ t → Move w.front.place b t → Keeps change (turned w.front b t) (out_of change w b t)
+  go : (t : ContentTurn) → turn w.front.place b ≡ t → Move w.front.place b t → Keeps change (turned w.front b t) (out_of change w b t)
   go (At q) e m = at_keeps change w.front w.out b q e m k
   go (First q) e m = first_keeps change w.front w.out b q e m.0 m.1 k
   go (With q) e m = with_keeps change w.front w.out b q e m k
@@ -351,7 +351,7 @@ front_fed change w (b ∷ bs) = front_fed change (rewrite_step change w b) bs
 -- ---- the end of the content
 
 -- in a URL the end of the content ends it
-in_open : (p : Place) (raw : List ℕ) (found : Option (List ℕ)) → (zone p ≡ Out → ⊥) → ended_in p raw found ≡ Some (reference raw)
+in_open : (p : ContentPlace) (raw : List ℕ) (found : Option (List ℕ)) → (zone p ≡ Out → ⊥) → ended_in p raw found ≡ Some (reference raw)
 in_open Start raw found n = absurd (n refl)
 in_open Time raw found n = absurd (n refl)
 in_open Behind raw found n = absurd (n refl)
@@ -365,7 +365,7 @@ in_open (Quoted quote) raw found n = refl
 in_open Done raw found n = absurd (n refl)
 in_open Bad raw found n = absurd (n refl)
 
-in_closed : (change : Change) (p : Place) (raw : List ℕ) → (zone p ≡ Out → ⊥) → closed change p raw ≡ anew change raw
+in_closed : (change : Change) (p : ContentPlace) (raw : List ℕ) → (zone p ≡ Out → ⊥) → closed change p raw ≡ anew change raw
 in_closed change Start raw n = absurd (n refl)
 in_closed change Time raw n = absurd (n refl)
 in_closed change Behind raw n = absurd (n refl)
@@ -379,7 +379,7 @@ in_closed change (Quoted quote) raw n = refl
 in_closed change Done raw n = absurd (n refl)
 in_closed change Bad raw n = absurd (n refl)
 
-out_closed : (change : Change) (p : Place) (raw : List ℕ) → zone p ≡ Out → closed change p raw ≡ []
+out_closed : (change : Change) (p : ContentPlace) (raw : List ℕ) → zone p ≡ Out → closed change p raw ≡ []
 out_closed change Start raw e = refl
 out_closed change Time raw e = refl
 out_closed change Behind raw e = refl
@@ -393,7 +393,7 @@ out_closed change (Quoted quote) raw e = absurd (cc)
 out_closed change Done raw e = refl
 out_closed change Bad raw e = refl
 
-out_ended : (change : Change) (p : Place) (raw : List ℕ) (found : Option (List ℕ)) → zone p ≡ Out → ended_in p raw (option_map (changed change) found) ≡ option_map (changed change) (ended_in p raw found)
+out_ended : (change : Change) (p : ContentPlace) (raw : List ℕ) (found : Option (List ℕ)) → zone p ≡ Out → ended_in p raw (option_map (changed change) found) ≡ option_map (changed change) (ended_in p raw found)
 out_ended change Start raw found e = refl
 out_ended change Time raw found e = refl
 out_ended change Behind raw found e = refl

@@ -4,10 +4,10 @@ use Rattle.std.specs.List.{list_all}
 use Rattle.std.specs.Str.Lossy.{utf8_lossy}
 use Rattle.css_links.specs.Rewriting.{Change}
 use Rattle.refresh_links.specs.Refresh.{Front, is_white, is_quote, separates, turn, reference, step, nothing_read}
-use Rattle.refresh_links.specs.declared.place.Turn.{Turn}
-use Rattle.refresh_links.specs.declared.place.Turn.TheVariants.{At, First, With, End}
-use Rattle.refresh_links.specs.declared.place.Place.{Place}
-use Rattle.refresh_links.specs.declared.place.Place.TheVariants.{Start, Time, Behind, Before, U, R, L, Equals, Url, Quoted, Done, Bad}
+use Rattle.refresh_links.specs.declared.place.ContentTurn.{ContentTurn}
+use Rattle.refresh_links.specs.declared.place.ContentTurn.TheVariants.{At, First, With, End}
+use Rattle.refresh_links.specs.declared.place.ContentPlace.{ContentPlace}
+use Rattle.refresh_links.specs.declared.place.ContentPlace.TheVariants.{Start, Time, Behind, Before, U, R, L, Equals, Url, Quoted, Done, Bad}
 
 -- whether a byte is no quote, and no `=`
 abbrev pub is_unquoted : ℕ → Bool
@@ -49,7 +49,7 @@ pub record Rewrite : Type 0 where
   pub out : List ℕ
 
 -- what is written when a byte does this
-abbrev pub out_of : Change → Rewrite → ℕ → Turn → List ℕ
+abbrev pub out_of : Change → Rewrite → ℕ → ContentTurn → List ℕ
 out_of change w b (At p) = w.out ++ (w.front.raw ++ b ∷ [])
 out_of change w b (First p) = w.out
 out_of change w b (With p) = w.out
@@ -69,7 +69,7 @@ rewrite_fed change w [] = w
 rewrite_fed change w (b ∷ bs) = rewrite_fed change (rewrite_step change w b) bs
 
 -- what the end of the content adds: a URL that it ends
-abbrev pub closed : Change → Place → List ℕ → List ℕ
+abbrev pub closed : Change → ContentPlace → List ℕ → List ℕ
 closed change Start raw = []
 closed change Time raw = []
 closed change Behind raw = []

@@ -3,25 +3,25 @@ ghost use Rattle.std.specs.Prelude.{◌≡◌, ◌++◌, ◌∷◌, [], Option, 
 ghost use Rattle.refresh_links.specs.Refresh.{nothing_read, ended, ended_in, reference, reference_of, step, turned, fed};
 ghost use Rattle.refresh_links.specs.Reading.{front_of};
 
-use crate::place::{Place, Turn, turn_at};
+use crate::place::{ContentPlace, ContentTurn, turn_at};
 use std::alloc::{AllocError, Global};
 
 /// How far a content was read: the place, what may be the URL, and the URL that ended.
 #[derive(Drop)]
-pub(crate) struct Machine {
+pub(crate) struct ContentMachine {
     alloc: Global,
-    pub(crate) place: Place,
+    pub(crate) place: ContentPlace,
     pub(crate) raw: Vec<u8>,
     found: Option<String>,
 }
 
-impl Machine {
+impl ContentMachine {
     pub(crate) fn new(alloc: Global) -> Self
         ensures { front_of result ≡ nothing_read }
     {
-        Machine {
+        ContentMachine {
             alloc,
-            place: Place::Start,
+            place: ContentPlace::Start,
             raw: Vec::new(alloc),
             found: None,
         }
@@ -35,27 +35,27 @@ impl Machine {
     }
 
     /// Does what the byte does in its place.
-    pub(crate) fn follow(&mut self, turn: Turn, byte: u8) -> Result<(), AllocError>
+    pub(crate) fn follow(&mut self, turn: ContentTurn, byte: u8) -> Result<(), AllocError>
         ensures { OnOk result (front_of self.new ≡ turned (front_of self.old) byte turn) }
     {
         match turn {
-            Turn::At(place) => {
+            ContentTurn::At(place) => {
                 self.raw.clear();
                 self.place = place;
             },
-            Turn::First(place) => {
+            ContentTurn::First(place) => {
                 self.raw.clear();
                 self.raw.push(byte)?;
                 self.place = place;
             },
-            Turn::With(place) => {
+            ContentTurn::With(place) => {
                 self.raw.push(byte)?;
                 self.place = place;
             },
-            Turn::End => {
+            ContentTurn::End => {
                 self.found = Some(self.url()?);
                 self.raw.clear();
-                self.place = Place::Done;
+                self.place = ContentPlace::Done;
             },
         }
         Ok(())
@@ -85,11 +85,13 @@ impl Machine {
         ensures { IfOk result (λ url. option_map string_bytes url ≡ ended (front_of self)) }
     {
         match self.place {
-            Place::U | Place::R | Place::L | Place::Url | Place::Quoted(_) => {
-                Ok(Some(self.url()?))
-            },
-            Place::Done => {
-                let Machine { found, .. } = self;
+            ContentPlace::U
+            | ContentPlace::R
+            | ContentPlace::L
+            | ContentPlace::Url
+            | ContentPlace::Quoted(_) => { Ok(Some(self.url()?)) },
+            ContentPlace::Done => {
+                let ContentMachine { found, .. } = self;
                 Ok(found)
             },
             _ => Ok(None),
@@ -102,7 +104,7 @@ impl Machine {
 pub fn scan(alloc: Global, content: &[u8]) -> Result<Option<String>, AllocError>
     ensures { IfOk result (λ url. option_map string_bytes url ≡ reference_of content.now) }
 {
-    let mut machine = Machine::new(alloc);
+    let mut machine = ContentMachine::new(alloc);
     machine.feed(content)?;
     Ok(machine.finish()?)
 }

@@ -4,7 +4,7 @@ ghost use Rattle.refresh_links.specs.Refresh as refresh;
 
 /// Where in the content the next byte is.
 #[derive(Clone, Copy)]
-pub(crate) enum Place {
+pub(crate) enum ContentPlace {
     /// Before the time: white.
     Start,
     /// In the time.
@@ -33,13 +33,13 @@ pub(crate) enum Place {
 
 /// What a byte does in its place.
 #[derive(Clone, Copy)]
-pub(crate) enum Turn {
+pub(crate) enum ContentTurn {
     /// It leads to that place; what may have been a URL is none.
-    At(Place),
+    At(ContentPlace),
     /// What may be a URL begins with it.
-    First(Place),
+    First(ContentPlace),
     /// It goes on with it.
-    With(Place),
+    With(ContentPlace),
     /// It is the quote that ends the URL.
     End,
 }
@@ -57,141 +57,141 @@ fn is_quote(byte: u8) -> bool
 }
 
 /// What a byte does in a place.
-pub(crate) fn turn_at(place: Place, byte: u8) -> Turn
+pub(crate) fn turn_at(place: ContentPlace, byte: u8) -> ContentTurn
     ensures { result ≡ refresh.turn place byte }
 {
     match place {
-        Place::Start => start(byte),
-        Place::Time => time(byte),
-        Place::Behind => behind(byte),
-        Place::Before => before(byte),
-        Place::U => u(byte),
-        Place::R => r(byte),
-        Place::L => l(byte),
-        Place::Equals => equals(byte),
-        Place::Url => Turn::With(Place::Url),
-        Place::Quoted(quote) => quoted(quote, byte),
-        Place::Done => Turn::At(Place::Done),
-        Place::Bad => Turn::At(Place::Bad),
+        ContentPlace::Start => start(byte),
+        ContentPlace::Time => time(byte),
+        ContentPlace::Behind => behind(byte),
+        ContentPlace::Before => before(byte),
+        ContentPlace::U => u(byte),
+        ContentPlace::R => r(byte),
+        ContentPlace::L => l(byte),
+        ContentPlace::Equals => equals(byte),
+        ContentPlace::Url => ContentTurn::With(ContentPlace::Url),
+        ContentPlace::Quoted(quote) => quoted(quote, byte),
+        ContentPlace::Done => ContentTurn::At(ContentPlace::Done),
+        ContentPlace::Bad => ContentTurn::At(ContentPlace::Bad),
     }
 }
 
-fn start(byte: u8) -> Turn
+fn start(byte: u8) -> ContentTurn
     ensures { result ≡ refresh.start byte }
 {
     if is_white(byte) {
-        Turn::At(Place::Start)
+        ContentTurn::At(ContentPlace::Start)
     } else if byte.is_ascii_digit() || byte == b'.' {
-        Turn::At(Place::Time)
+        ContentTurn::At(ContentPlace::Time)
     } else {
-        Turn::At(Place::Bad)
+        ContentTurn::At(ContentPlace::Bad)
     }
 }
 
-fn time(byte: u8) -> Turn
+fn time(byte: u8) -> ContentTurn
     ensures { result ≡ refresh.time byte }
 {
     if byte.is_ascii_digit() || byte == b'.' {
-        Turn::At(Place::Time)
+        ContentTurn::At(ContentPlace::Time)
     } else if is_white(byte) {
-        Turn::At(Place::Behind)
+        ContentTurn::At(ContentPlace::Behind)
     } else if byte == b';' || byte == b',' {
-        Turn::At(Place::Before)
+        ContentTurn::At(ContentPlace::Before)
     } else {
-        Turn::At(Place::Bad)
+        ContentTurn::At(ContentPlace::Bad)
     }
 }
 
-fn behind(byte: u8) -> Turn
+fn behind(byte: u8) -> ContentTurn
     ensures { result ≡ refresh.behind byte }
 {
     if is_white(byte) {
-        Turn::At(Place::Behind)
+        ContentTurn::At(ContentPlace::Behind)
     } else if byte == b';' || byte == b',' {
-        Turn::At(Place::Before)
+        ContentTurn::At(ContentPlace::Before)
     } else {
         url_begins(byte)
     }
 }
 
-fn before(byte: u8) -> Turn
+fn before(byte: u8) -> ContentTurn
     ensures { result ≡ refresh.before byte }
 {
     if is_white(byte) {
-        Turn::At(Place::Before)
+        ContentTurn::At(ContentPlace::Before)
     } else {
         url_begins(byte)
     }
 }
 
-fn url_begins(byte: u8) -> Turn
+fn url_begins(byte: u8) -> ContentTurn
     ensures { result ≡ refresh.url_begins byte }
 {
     if byte == b'u' || byte == b'U' {
-        Turn::First(Place::U)
+        ContentTurn::First(ContentPlace::U)
     } else {
         quote_or_url(byte)
     }
 }
 
-fn quote_or_url(byte: u8) -> Turn
+fn quote_or_url(byte: u8) -> ContentTurn
     ensures { result ≡ refresh.quote_or_url byte }
 {
     if is_quote(byte) {
-        Turn::At(Place::Quoted(byte))
+        ContentTurn::At(ContentPlace::Quoted(byte))
     } else {
-        Turn::First(Place::Url)
+        ContentTurn::First(ContentPlace::Url)
     }
 }
 
-fn u(byte: u8) -> Turn
+fn u(byte: u8) -> ContentTurn
     ensures { result ≡ refresh.u byte }
 {
     if byte == b'r' || byte == b'R' {
-        Turn::With(Place::R)
+        ContentTurn::With(ContentPlace::R)
     } else {
-        Turn::With(Place::Url)
+        ContentTurn::With(ContentPlace::Url)
     }
 }
 
-fn r(byte: u8) -> Turn
+fn r(byte: u8) -> ContentTurn
     ensures { result ≡ refresh.r byte }
 {
     if byte == b'l' || byte == b'L' {
-        Turn::With(Place::L)
+        ContentTurn::With(ContentPlace::L)
     } else {
-        Turn::With(Place::Url)
+        ContentTurn::With(ContentPlace::Url)
     }
 }
 
-fn l(byte: u8) -> Turn
+fn l(byte: u8) -> ContentTurn
     ensures { result ≡ refresh.l byte }
 {
     if is_white(byte) {
-        Turn::With(Place::L)
+        ContentTurn::With(ContentPlace::L)
     } else if byte == b'=' {
-        Turn::At(Place::Equals)
+        ContentTurn::At(ContentPlace::Equals)
     } else {
-        Turn::With(Place::Url)
+        ContentTurn::With(ContentPlace::Url)
     }
 }
 
-fn equals(byte: u8) -> Turn
+fn equals(byte: u8) -> ContentTurn
     ensures { result ≡ refresh.equals byte }
 {
     if is_white(byte) {
-        Turn::At(Place::Equals)
+        ContentTurn::At(ContentPlace::Equals)
     } else {
         quote_or_url(byte)
     }
 }
 
-fn quoted(quote: u8, byte: u8) -> Turn
+fn quoted(quote: u8, byte: u8) -> ContentTurn
     ensures { result ≡ refresh.quoted quote byte }
 {
     if byte == quote {
-        Turn::End
+        ContentTurn::End
     } else {
-        Turn::With(Place::Quoted(quote))
+        ContentTurn::With(ContentPlace::Quoted(quote))
     }
 }

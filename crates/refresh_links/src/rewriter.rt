@@ -6,16 +6,16 @@ ghost use Rattle.refresh_links.specs.Rewriting as rewriting;
 ghost use Rattle.refresh_links.specs.Rewriting.{IsWriting, rewritten};
 ghost use Rattle.refresh_links.specs.Reading.{rewrite_of};
 
-use crate::machine::Machine;
-use crate::place::{Place, Turn, turn_at};
+use crate::machine::ContentMachine;
+use crate::place::{ContentPlace, ContentTurn, turn_at};
 use css_links::Change;
 use std::alloc::{AllocError, Global};
 
 /// How far a content was written anew: what was read, and what was written.
 #[derive(Drop)]
-pub(crate) struct Rewriter {
+pub(crate) struct ContentRewriter {
     alloc: Global,
-    machine: Machine,
+    machine: ContentMachine,
     out: Vec<u8>,
 }
 
@@ -43,30 +43,35 @@ fn push_anew<C: Change>(
     push_or(out, raw, &other)
 }
 
-impl Rewriter {
+impl ContentRewriter {
     fn new(alloc: Global) -> Self
         ensures { rewrite_of result ≡ rewriting.nothing_written }
     {
-        Rewriter {
+        ContentRewriter {
             alloc,
-            machine: Machine::new(alloc),
+            machine: ContentMachine::new(alloc),
             out: Vec::new(alloc),
         }
     }
 
     // Writes what a byte that does this makes ready.
-    fn write<C: Change>(&mut self, change: &C, turn: Turn, byte: u8) -> Result<(), AllocError>
+    fn write<C: Change>(
+        &mut self,
+        change: &C,
+        turn: ContentTurn,
+        byte: u8,
+    ) -> Result<(), AllocError>
         ensures out { OnOk result (self.new.out.items ≡ rewriting.out_of (C.becomes change.now) (rewrite_of self.old) byte turn) }
         ensures machine { OnOk result (self.new.machine ≡ self.old.machine) }
     {
         match turn {
-            Turn::At(_) => {
+            ContentTurn::At(_) => {
                 self.out.extend_from_slice(&self.machine.raw)?;
                 self.out.push(byte)?;
             },
-            Turn::First(_) => (),
-            Turn::With(_) => (),
-            Turn::End => {
+            ContentTurn::First(_) => (),
+            ContentTurn::With(_) => (),
+            ContentTurn::End => {
                 push_anew(self.alloc, change, &mut self.out, &self.machine.raw)?;
                 self.out.push(byte)?;
             },
@@ -100,7 +105,11 @@ impl Rewriter {
         ensures { OnOk result (self.new.out.items ≡ rewriting.rewrite_ended (C.becomes change.now) (rewrite_of self.old)) }
     {
         match self.machine.place {
-            Place::U | Place::R | Place::L | Place::Url | Place::Quoted(_) => {
+            ContentPlace::U
+            | ContentPlace::R
+            | ContentPlace::L
+            | ContentPlace::Url
+            | ContentPlace::Quoted(_) => {
                 push_anew(self.alloc, change, &mut self.out, &self.machine.raw)
             },
             _ => Ok(()),
@@ -112,7 +121,7 @@ impl Rewriter {
         ensures { IfOk result (λ out. out.items ≡ rewriting.rewrite_ended (C.becomes change.now) (rewrite_of self)) }
     {
         self.close(change)?;
-        let Rewriter { out, .. } = self;
+        let ContentRewriter { out, .. } = self;
         Ok(out)
     }
 }
@@ -123,7 +132,7 @@ pub fn rewrite<C: Change>(alloc: Global, change: &C, content: &[u8]) -> Result<V
     ensures content { IfOk result (λ out. out.items ≡ rewritten (C.becomes change.now) content.now) }
     ensures reference { IsWriting (C.becomes change.now) → IfOk result (λ out. reference_of out.items ≡ option_map (changed (C.becomes change.now)) (reference_of content.now)) }
 {
-    let mut rewriter = Rewriter::new(alloc);
+    let mut rewriter = ContentRewriter::new(alloc);
     rewriter.feed(change, content)?;
     Ok(rewriter.finish(change)?)
 }

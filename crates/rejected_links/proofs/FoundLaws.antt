@@ -22,12 +22,12 @@ use Rattle.fetcher.specs.declared.edge.Edge.{Edge}
 use Rattle.fetcher.specs.declared.edge.EdgeKind.{EdgeKind}
 use Rattle.follow_filters.specs.Rules.{meets, first_unmet, verdict_from, IsFirstUnmetBy}
 use Rattle.follow_filters.specs.declared.plan.Plan.{Plan}
-use Rattle.follow_filters.specs.declared.rule.Rule.{Rule}
+use Rattle.follow_filters.specs.declared.rule.FollowRule.{FollowRule}
 use Rattle.follow_filters.proofs.Meaning.{meets-Decides, verdict-means}
 use Rattle.frontier_core.specs.Tables.{Text}
 use Rattle.frontier_core.specs.Readers.{Recorded}
 use Rattle.harvest.specs.Harvests.{Harvested}
-use Rattle.harvest.specs.declared.entry.Entry.{Entry}
+use Rattle.harvest.specs.declared.entry.HarvestEntry.{HarvestEntry}
 use Rattle.rejected_links.specs.declared.reason.Reason.{Reason}
 use Rattle.rejected_links.specs.Lines.{Rejected}
 use Rattle.rejected_links.specs.Reasons.{reason_of}
@@ -46,7 +46,7 @@ compare_same u = go (slice_cmp nat_cmp u u) (nat_list_cmp_total.antisymm u u)
     go Equal e = ((λ h. cc), (λ h. cc))
     go Greater e = cc
 
-entry_at : Text → Entry
+entry_at : Text → HarvestEntry
 entry_at u = record { address = u; depth = 0; refused = false; answer = None }
 
 bytes_exact : (u v : Text) → bytes_eq u v ≡ true → u ≡ v
@@ -60,14 +60,14 @@ pub among_is : (u : Text) (texts : List Text) → list_any (bytes_eq u) texts �
 among_is u texts found = Contains-from_any bytes_exact u texts found
 
 -- what a binary search by the address finds
-pub found_is : (entries : List Entry) (u : Text) (r : Result ℕ ℕ) → IsAscending (found_addresses entries) → IsSearchInRange r (length entries)
-    → IsBinarySearchResult (λ (x : Entry). slice_cmp nat_cmp x.address u) entries r → is_ok r ≡ list_any (bytes_eq u) (found_addresses entries)
+pub found_is : (entries : List HarvestEntry) (u : Text) (r : Result ℕ ℕ) → IsAscending (found_addresses entries) → IsSearchInRange r (length entries)
+    → IsBinarySearchResult (λ (x : HarvestEntry). slice_cmp nat_cmp x.address u) entries r → is_ok r ≡ list_any (bytes_eq u) (found_addresses entries)
 found_is entries u (Ok i) up within found =
-    let key : Entry → Text = λ entry. entry.address in
+    let key : HarvestEntry → Text = λ entry. entry.address in
     let is : (get_or entries i (entry_at u)).address ≡ u = exact_bytes _ _ (found (entry_at u)) in
     sym (is_among u (map key entries) (i, omega (arith, length-map entries key), get_or-map key entries i (entry_at u) u within ∙ is))
 found_is entries u (Err i) up within found =
-    let key : Entry → Text = λ entry. entry.address in
+    let key : HarvestEntry → Text = λ entry. entry.address in
     let parts = found (searchable_from_sorted nat_list_cmp_total key entries u (IsSortedBy-from_ascending key entries up)) in
     sym (false_from_ne_true (list_any (bytes_eq u) (map key entries)) (λ yes.
     let (k, lt, is) = among_is u (map key entries) yes in
@@ -80,46 +80,46 @@ found_is entries u (Err i) up within found =
 
 -- ---- the first unmet rule
 
-pub unmet_none : (o : Option Rule) (u : Unit {0}) → Ok u ≡ verdict_from o → o ≡ None
+pub unmet_none : (o : Option FollowRule) (u : Unit {0}) → Ok u ≡ verdict_from o → o ≡ None
 unmet_none None u is = refl
 unmet_none (Some rule) u is = cc
 
-pub unmet_some : (o : Option Rule) (rule : Rule) → Err rule ≡ verdict_from o → o ≡ Some rule
+pub unmet_some : (o : Option FollowRule) (rule : FollowRule) → Err rule ≡ verdict_from o → o ≡ Some rule
 unmet_some None rule is = cc
 unmet_some (Some other) rule is = cc
 
 -- what comes after what passes a test, and fails it, is found first
-find_first : (q : Rule → Bool) (before after : List Rule) (u : Rule) → All (λ r. q r ≡ true) before → q u ≡ false → find (λ r. not (q r)) (before ++ u ∷ after) ≡ Some u
+find_first : (q : FollowRule → Bool) (before after : List FollowRule) (u : FollowRule) → All (λ r. q r ≡ true) before → q u ≡ false → find (λ r. not (q r)) (before ++ u ∷ after) ≡ Some u
 find_first q [] after u met unmet = ap (λ b. cond (not b) (Some u) (find (λ r. not (q r)) after)) unmet
 find_first q (r ∷ before) after u met unmet =
     ap (λ b. cond (not b) (Some r) (find (λ s. not (q s)) (before ++ u ∷ after))) (met zero r (omega arith))
     ∙ find_first q before after u (All-tail (λ s. q s ≡ true) r before met) unmet
 
-first_from : (plan : Plan) (page : Text) (kind : EdgeKind) (target : Text) (rule : Rule) → IsFirstUnmetBy plan page kind target rule → first_unmet plan page kind target ≡ Some rule
+first_from : (plan : Plan) (page : Text) (kind : EdgeKind) (target : Text) (rule : FollowRule) → IsFirstUnmetBy plan page kind target rule → first_unmet plan page kind target ≡ Some rule
 unfolding first_unmet
 first_from plan page kind target rule (before, after, split, met, unmet) =
-    let q : Rule → Bool = λ r. meets r plan page kind target in
+    let q : FollowRule → Bool = λ r. meets r plan page kind target in
     ap (find (λ r. not (q r))) split
     ∙ find_first q before after rule (λ k d below. (meets-Decides (get_or before k d) plan page kind target).1 (met k d below))
     (false_from_ne_true (q rule) (λ yes. unmet ((meets-Decides rule plan page kind target).0 yes)))
 
-is_first : (plan : Plan) (page : Text) (kind : EdgeKind) (target : Text) (rule : Rule) → first_unmet plan page kind target ≡ Some rule → IsFirstUnmetBy plan page kind target rule
+is_first : (plan : Plan) (page : Text) (kind : EdgeKind) (target : Text) (rule : FollowRule) → first_unmet plan page kind target ≡ Some rule → IsFirstUnmetBy plan page kind target rule
 is_first plan page kind target rule is = rw is at (verdict-means plan page kind target)
 
 -- ---- rejected links
 
 -- an edge is rejected exactly if its target wasn't found and it doesn't meet a rule
 why_from : (plan : Plan) (found : List Text) (page : Text) (kind : EdgeKind) (target : Text) (why : Reason) → rejection plan found page kind target ≡ Some why
-    → (rule : Rule) × (first_unmet plan page kind target ≡ Some rule) × (why ≡ reason_of rule) × (list_any (bytes_eq target) found ≡ false)
+    → (rule : FollowRule) × (first_unmet plan page kind target ≡ Some rule) × (why ≡ reason_of rule) × (list_any (bytes_eq target) found ≡ false)
 why_from plan found page kind target why is = go (list_any (bytes_eq target) found) (first_unmet plan page kind target) refl refl is
   where
-    go : (b : Bool) (o : Option Rule) → list_any (bytes_eq target) found ≡ b → first_unmet plan page kind target ≡ o → (if b then None else option_map reason_of o) ≡ Some why
-        → (rule : Rule) × (first_unmet plan page kind target ≡ Some rule) × (why ≡ reason_of rule) × (list_any (bytes_eq target) found ≡ false)
+    go : (b : Bool) (o : Option FollowRule) → list_any (bytes_eq target) found ≡ b → first_unmet plan page kind target ≡ o → (if b then None else option_map reason_of o) ≡ Some why
+        → (rule : FollowRule) × (first_unmet plan page kind target ≡ Some rule) × (why ≡ reason_of rule) × (list_any (bytes_eq target) found ≡ false)
     go true o e f is = cc
     go false None e f is = cc
     go false (Some rule) e f is = (rule, f, cc, e)
 
-why_is : (plan : Plan) (found : List Text) (page : Text) (kind : EdgeKind) (target : Text) (rule : Rule) → first_unmet plan page kind target ≡ Some rule → list_any (bytes_eq target) found ≡ false
+why_is : (plan : Plan) (found : List Text) (page : Text) (kind : EdgeKind) (target : Text) (rule : FollowRule) → first_unmet plan page kind target ≡ Some rule → list_any (bytes_eq target) found ≡ false
     → rejection plan found page kind target ≡ Some (reason_of rule)
 why_is plan found page kind target rule unmet unfound = rw (unfound, unmet) refl
 

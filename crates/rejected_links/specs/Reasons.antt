@@ -1,12 +1,12 @@
 -- Why links are rejected, in the words of Wget's log (GNU Wget manual, Recursive Retrieval Options).
 use Rattle.std.specs.Prelude.{ℕ, List, codes}
-use Rattle.follow_filters.specs.declared.rule.Rule.{Rule}
-use Rattle.follow_filters.specs.declared.rule.Rule.TheVariants as rule
+use Rattle.follow_filters.specs.declared.rule.FollowRule.{FollowRule}
+use Rattle.follow_filters.specs.declared.rule.FollowRule.TheVariants as rule
 use Rattle.rejected_links.specs.declared.reason.Reason.{Reason}
 use Rattle.rejected_links.specs.declared.reason.Reason.TheVariants.{Blacklist, Domain, List as Directories, Parent, Regex, Rules, SpannedHost}
 
 -- the reason of a link that doesn't meet the rule
-abbrev pub reason_of : Rule → Reason
+abbrev pub reason_of : FollowRule → Reason
 reason_of rule.RobotsFile = Blacklist
 reason_of rule.Host = SpannedHost
 reason_of rule.Parent = Parent

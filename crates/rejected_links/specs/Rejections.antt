@@ -7,15 +7,15 @@ use Rattle.fetcher.specs.declared.edge.EdgeKind.{EdgeKind}
 use Rattle.fetcher.specs.declared.outcome.Outcome.{Outcome}
 use Rattle.follow_filters.specs.Rules.{IsFirstUnmetBy}
 use Rattle.follow_filters.specs.declared.plan.Plan.{Plan}
-use Rattle.follow_filters.specs.declared.rule.Rule.{Rule}
+use Rattle.follow_filters.specs.declared.rule.FollowRule.{FollowRule}
 use Rattle.frontier_core.specs.Tables.{Text}
 use Rattle.harvest.specs.Harvests.{Harvested}
-use Rattle.harvest.specs.declared.entry.Entry.{Entry}
+use Rattle.harvest.specs.declared.entry.HarvestEntry.{HarvestEntry}
 use Rattle.rejected_links.specs.Lines.{Rejected, line_text, header}
 use Rattle.rejected_links.specs.Reasons.{reason_of}
 
 -- the addresses of entries
-abbrev pub found_addresses : List Entry → List Text
+abbrev pub found_addresses : List HarvestEntry → List Text
 found_addresses entries = map (λ entry. entry.address) entries
 
 -- the link is rejected: an answered page has it, as a link, as something that it shows or as a redirect; where it leads wasn't found,
@@ -24,7 +24,7 @@ pub record IsRejected {B : Type 0} (h : Harvested B) (link : Rejected) : Type 0 
   pub plan : Plan
   pub outcome : Outcome
   pub kind : EdgeKind
-  pub rule : Rule
+  pub rule : FollowRule
   pub planned : h.plan ≡ Some plan
   pub answered : Contains h.records (link.page, outcome)
   pub edge : Contains (edges outcome) (record { target = link.target; kind = kind })

@@ -13,11 +13,11 @@ use crate::rejected_link::RejectedLink;
 use address::Address;
 use fetcher::{EdgeKind, Outcome};
 use follow_filters::Plan;
-use harvest::Entry;
+use harvest::HarvestEntry;
 use std::alloc::{AllocError, Global};
 
 // Whether an address was found: whether entries in address order have it.
-fn is_found(entries: &[Entry], address: &Address) -> bool
+fn is_found(entries: &[HarvestEntry], address: &Address) -> bool
     requires { IsAscending (found_addresses entries.now) }
     ensures { result ≡ list_any (bytes_eq address.now) (found_addresses entries.now) }
 {
@@ -29,7 +29,7 @@ fn is_found(entries: &[Entry], address: &Address) -> bool
 // Why a page's edge of the kind is rejected, if it is.
 fn rejection(
     plan: &Plan,
-    entries: &[Entry],
+    entries: &[HarvestEntry],
     page: &Address,
     kind: EdgeKind,
     target: &Address,
@@ -50,7 +50,7 @@ fn rejection(
 fn push_rejected<'a>(
     links: &mut Vec<RejectedLink<'a>>,
     plan: &Plan,
-    entries: &[Entry],
+    entries: &[HarvestEntry],
     page: &'a Address,
     outcome: &'a Outcome,
 ) -> Result<(), AllocError>
@@ -75,7 +75,7 @@ fn push_rejected<'a>(
 fn list_rejected<'a>(
     alloc: Global,
     plan: &Plan,
-    entries: &[Entry],
+    entries: &[HarvestEntry],
     records: &'a [(Address, Outcome)],
 ) -> Result<Vec<RejectedLink<'a>>, AllocError>
     requires { IsAscending (found_addresses entries.now) }
@@ -92,7 +92,7 @@ fn list_rejected<'a>(
 pub(crate) fn rejected_links<'a>(
     alloc: Global,
     plan: &Plan,
-    entries: &[Entry],
+    entries: &[HarvestEntry],
     records: &'a [(Address, Outcome)],
 ) -> Result<Vec<RejectedLink<'a>>, AllocError>
     requires { IsAscending (found_addresses entries.now) }

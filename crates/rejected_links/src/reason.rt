@@ -1,6 +1,6 @@
 //! Why links are rejected, in the words of Wget's log (GNU Wget manual, Recursive Retrieval Options).
 
-use follow_filters::Rule;
+use follow_filters::FollowRule;
 
 /// Why a link is rejected. The reasons are in the order of their words.
 #[derive(Clone, Copy, PartialEq, Eq, PartialOrd, Ord, Debug)]
@@ -26,17 +26,17 @@ impl Reason {
     ghost use Rattle.rejected_links.specs.Reasons.{reason_of, word_of};
 
     /// The reason of a link that doesn't meet the rule.
-    pub fn of(rule: Rule) -> Reason
+    pub fn of(rule: FollowRule) -> Reason
         ensures { result ≡ reason_of rule }
     {
         match rule {
-            Rule::RobotsFile => Reason::Blacklist,
-            Rule::Host => Reason::SpannedHost,
-            Rule::Parent => Reason::Parent,
-            Rule::Domain | Rule::ExcludedDomain => Reason::Domain,
-            Rule::NotIncluded | Rule::Excluded => Reason::List,
-            Rule::NotAccepted | Rule::Rejected => Reason::Rules,
-            Rule::ExpressionMissing | Rule::ExpressionFound => Reason::Regex,
+            FollowRule::RobotsFile => Reason::Blacklist,
+            FollowRule::Host => Reason::SpannedHost,
+            FollowRule::Parent => Reason::Parent,
+            FollowRule::Domain | FollowRule::ExcludedDomain => Reason::Domain,
+            FollowRule::NotIncluded | FollowRule::Excluded => Reason::List,
+            FollowRule::NotAccepted | FollowRule::Rejected => Reason::Rules,
+            FollowRule::ExpressionMissing | FollowRule::ExpressionFound => Reason::Regex,
         }
     }
 

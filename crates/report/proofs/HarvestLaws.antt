@@ -15,7 +15,7 @@ use Rattle.harvest.specs.Entries.{seen_of, seen_in, said_by, is_refused, IsPlace
 use Rattle.harvest.specs.Gathered.{AreEntries, AreRecords}
 use Rattle.harvest.specs.Harvests.{Harvested}
 use Rattle.address.specs.AddressOrder.{IsBefore}
-use Rattle.harvest.specs.declared.entry.Entry.{Entry}
+use Rattle.harvest.specs.declared.entry.HarvestEntry.{HarvestEntry}
 use Rattle.report.specs.Report.{Line, Fate, Asked, Refused, AreAscending}
 use Rattle.report.specs.Entries.{fate_at, name_among, line_with, line_at, harvest_lines_of}
 use Rattle.report.proofs.ListLaws.{to_map, from_map, pairs_map, from_given, pairs_given, length-given}
@@ -32,7 +32,7 @@ pub record Holds (s : State) (u : Text) (d : ℕ) (refusal : Bool) : Type 0 wher
 found_among : (s : State) → IsOnce (keys s.entries) → (t : Text × Slot) → Contains s.entries t → lookup s.entries t.0 ≡ Some t.1
 found_among s once t (k, lt, at) = subst (λ (z : Text × Slot). lookup s.entries z.0 ≡ Some z.1) at (found_entry s.entries once k t lt)
 
-pub held : {B : Type 0} (h : Harvested B) → AreEntries h → IsOnce (keys h.state.entries) → (e : Entry) → Contains h.entries e → Holds h.state e.address e.depth e.refused
+pub held : {B : Type 0} (h : Harvested B) → AreEntries h → IsOnce (keys h.state.entries) → (e : HarvestEntry) → Contains h.entries e → Holds h.state e.address e.depth e.refused
 held h are once e among =
     let there = Contains-permutation (map said_by h.entries) (seen_in h.state) (said_by e) (IsPermutation-sym _ _ are.same) (to_map said_by h.entries e among) in
     let (t, stands, is) = from_map (λ (entry : Text × Slot). seen_of (entry_of entry)) h.state.entries (said_by e) there in
@@ -95,13 +95,13 @@ unanswered (Answered x turn) h = absurd (false≢true h)
 unanswered progress.Refused h = refl
 
 -- the parts of a line
-pub record IsLineOf {B : Type 0} (h : Harvested B) (names : List (List ℕ)) (e : Entry) (o : Option Fate) (line : Line) : Type 0 where
+pub record IsLineOf {B : Type 0} (h : Harvested B) (names : List (List ℕ)) (e : HarvestEntry) (o : Option Fate) (line : Line) : Type 0 where
   pub address : e.address ≡ line.address
   pub depth : e.depth ≡ line.depth
   pub fate : o ≡ Some line.fate
   pub name : name_among h.kept names line.address ≡ line.name
 
-pub line_is : {B : Type 0} (h : Harvested B) (names : List (List ℕ)) (e : Entry) (o : Option Fate) (line : Line)
+pub line_is : {B : Type 0} (h : Harvested B) (names : List (List ℕ)) (e : HarvestEntry) (o : Option Fate) (line : Line)
     → option_map (line_with h names e) o ≡ Some line → IsLineOf h names e o line
 line_is h names e None line is = cc
 line_is h names e (Some fate) line is =
@@ -116,10 +116,10 @@ line_is h names e (Some fate) line is =
 
 pub ascending_lines : {B : Type 0} (h : Harvested B) (names : List (List ℕ)) → AreEntries h → AreAscending (harvest_lines_of h names)
 ascending_lines h names are =
-    pairs_given (λ (e f : Entry). IsBefore e.address f.address) (λ (l m : Line). IsBefore l.address m.address) (line_at h names)
+    pairs_given (λ (e f : HarvestEntry). IsBefore e.address f.address) (λ (l m : Line). IsBefore l.address m.address) (line_at h names)
     (λ e f l m before left right.
     subst (λ (u : Text). IsBefore l.address u) (line_is h names f _ m right).address (subst (λ (u : Text). IsBefore u f.address) (line_is h names e _ l left).address before))
-    h.entries (pairs_map (λ (e : Entry). e.address) IsBefore h.entries are.ascending)
+    h.entries (pairs_map (λ (e : HarvestEntry). e.address) IsBefore h.entries are.ascending)
 
 pub length-harvest_lines_of : {B : Type 0} (h : Harvested B) (names : List (List ℕ)) → AreEntries h → length (harvest_lines_of h names) ≤ length h.state.entries
 length-harvest_lines_of h names are =

@@ -19,7 +19,7 @@ use Rattle.harvest.specs.Entries.{Seen, seen_of, seen_in, said_by, is_refused, r
 use Rattle.harvest.specs.Gathered.{AreEntries, AreRecords, ArePages}
 use Rattle.harvest.specs.Harvests.{Harvested}
 use Rattle.harvest.specs.Pages.{IsKept, is_success}
-use Rattle.harvest.specs.declared.entry.Entry.{Entry}
+use Rattle.harvest.specs.declared.entry.HarvestEntry.{HarvestEntry}
 use Rattle.report.specs.Entries.{fate_at, name_among, line_with, line_at, harvest_lines_of}
 use Rattle.report.specs.Named.{has_succeeded, is_to_keep, named_pages, names_in}
 use Rattle.report.specs.Report.{Line, Fate, Asked, Refused}
@@ -155,7 +155,7 @@ answered_line h names are records u x is =
     let (e, there, says) = from_map said_by h.entries _ seen in
     let named : e.address ≡ u = ap (λ (z : Seen). z.0) says in
     let (k, lt, at) = there in
-    let placed = subst (λ (z : Entry). IsPlaceOf h.records z.address z.answer) at (are.places k e lt) in
+    let placed = subst (λ (z : HarvestEntry). IsPlaceOf h.records z.address z.answer) at (are.places k e lt) in
     let among = subst (λ (v : Text). Contains (recorded_addresses h.records) v) (sym named) (to_map (λ (r : Recorded). r.0) h.records (u, x) (recorded h records u slot x found outcome)) in
     let (fate, is_fate) = became h.records e.address e.refused e.answer placed among in (
       line_with h names e fate,
@@ -247,11 +247,11 @@ line_to_keep plan h names are records once long kept line among =
     let said = line_is h names e _ line is in
     let stands = held h are once e there in
     let (k, lt, at) = there in
-    let placed = subst (λ (z : Entry). IsPlaceOf h.records z.address z.answer) at (are.places k e lt) in
+    let placed = subst (λ (z : HarvestEntry). IsPlaceOf h.records z.address z.answer) at (are.places k e lt) in
     ap (λ (o : Option (List ℕ)). is_some o) (sym said.name)
     ∙ subst (λ (u : Text). is_some (name_among h.kept names u) ≡ (has_succeeded line.fate && keeps_of plan u)) said.address (by_fate e stands (fate_from h.records e.address e.refused e.answer line.fate placed said.fate))
   where
-    by_fate : (e : Entry) → Holds h.state e.address e.depth e.refused → FateOf h.records e.address e.refused line.fate
+    by_fate : (e : HarvestEntry) → Holds h.state e.address e.depth e.refused → FateOf h.records e.address e.refused line.fate
         → is_some (name_among h.kept names e.address) ≡ (has_succeeded line.fate && keeps_of plan e.address)
     by_fate e stands (by_rules shut f) =
         unnamed plan h.state h.kept names e.address (kept e.address) (ap slot_outcome stands.found ∙ unanswered stands.slot.progress (stands.refused ∙ shut))

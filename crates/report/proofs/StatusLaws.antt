@@ -14,7 +14,7 @@ use Rattle.frontier_core.specs.Views.{condition_of}
 use Rattle.harvest.specs.Entries.{Seen, seen_of, seen_in, said_by, is_refused, recorded_addresses, IsPlaceOf}
 use Rattle.harvest.specs.Gathered.{AreEntries, AreRecords}
 use Rattle.harvest.specs.Harvests.{Harvested}
-use Rattle.harvest.specs.declared.entry.Entry.{Entry}
+use Rattle.harvest.specs.declared.entry.HarvestEntry.{HarvestEntry}
 use Rattle.report.specs.Entries.{fate_at, line_with, line_at, harvest_lines_of}
 use Rattle.report.specs.ExitStatus.{is_network_fault, exit_status, outcome_of, outcomes_in}
 use Rattle.report.specs.Report.{Line, Fate, Asked, Refused, is_failed}
@@ -56,7 +56,7 @@ told_recorded h names are x among =
     let (e, stands, gives) = from_given (line_at h names) h.entries line there in
     let said = line_is h names e _ line gives in
     let (k, lt, at) = stands in
-    let placed = subst (λ (z : Entry). IsPlaceOf h.records z.address z.answer) at (are.places k e lt) in
+    let placed = subst (λ (z : HarvestEntry). IsPlaceOf h.records z.address z.answer) at (are.places k e lt) in
     elim (fate_from h.records e.address e.refused e.answer line.fate placed said.fate) [
       | by_rules shut f ↦ (let none : None ≡ Some x = sym (ap outcome_of f) ∙ is in cc)
       | by_record y held f ↦ (let alike : Some y ≡ Some x = sym (ap outcome_of f) ∙ is in let same : y ≡ x = cc in
@@ -86,7 +86,7 @@ recorded_told h names are records once u x among =
     let (e, there, says) = from_map said_by h.entries _ seen in
     let named : e.address ≡ u = ap (λ (z : Seen). z.0) says in
     let (k, lt, at) = there in
-    let placed = subst (λ (v : Text). IsPlaceOf h.records v e.answer) named (subst (λ (z : Entry). IsPlaceOf h.records z.address z.answer) at (are.places k e lt)) in
+    let placed = subst (λ (v : Text). IsPlaceOf h.records v e.answer) named (subst (λ (z : HarvestEntry). IsPlaceOf h.records z.address z.answer) at (are.places k e lt)) in
     let fate = recorded_fate h records once u x among e.refused e.answer (free said (ap (λ (z : Seen). z.2) says)) placed in
     to_given (λ (line : Line). outcome_of line.fate) (harvest_lines_of h names) (line_with h names e (Asked x)) x
     (to_given (line_at h names) h.entries e _ there (rw fate refl)) refl

@@ -4,7 +4,7 @@ use Rattle.std.specs.List.{filter_map}
 use Rattle.frontier_core.specs.Tables.{Text}
 use Rattle.frontier_core.specs.Readers.{Recorded}
 use Rattle.harvest.specs.Harvests.{Harvested}
-use Rattle.harvest.specs.declared.entry.Entry.{Entry}
+use Rattle.harvest.specs.declared.entry.HarvestEntry.{HarvestEntry}
 use Rattle.report.specs.Report.{Line, Fate, Asked, Refused}
 
 -- what became of an entry: robots rules refuse it, or it has the outcome at its place in the records
@@ -20,12 +20,12 @@ name_among (page ∷ kept) [] u = None
 name_among (page ∷ kept) (name ∷ names) u = if bytes_eq page u then Some name else name_among kept names u
 
 -- the line of an entry with what became of it
-abbrev pub line_with : {B : Type 0} → Harvested B → List (List ℕ) → Entry → Fate → Line
+abbrev pub line_with : {B : Type 0} → Harvested B → List (List ℕ) → HarvestEntry → Fate → Line
 line_with harvest names entry fate =
     record { address = entry.address; depth = entry.depth; fate = fate; name = name_among harvest.kept names entry.address }
 
 -- the line of an entry, if something became of it
-abbrev pub line_at : {B : Type 0} → Harvested B → List (List ℕ) → Entry → Option Line
+abbrev pub line_at : {B : Type 0} → Harvested B → List (List ℕ) → HarvestEntry → Option Line
 line_at harvest names entry = option_map (line_with harvest names entry) (fate_at harvest.records entry.refused entry.answer)
 
 -- the lines of a harvest whose kept pages have these names, in the order of its entries

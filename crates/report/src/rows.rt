@@ -7,7 +7,7 @@ ghost use Rattle.report.specs.Entries.{name_among, fate_at, line_with, harvest_l
 
 use address::Address;
 use fetcher::Outcome;
-use harvest::{Entry, Harvest};
+use harvest::{Harvest, HarvestEntry};
 use std::alloc::{AllocError, Global};
 use std::marker::Model;
 
@@ -22,7 +22,7 @@ pub(crate) enum Fate<'a> {
 
 /// What the report says of one address.
 #[derive(Drop)]
-pub(crate) struct Row<'a> {
+pub(crate) struct ReportRow<'a> {
     pub address: &'a str,
     pub depth: u32,
     pub fate: Fate<'a>,
@@ -31,7 +31,7 @@ pub(crate) struct Row<'a> {
 }
 
 // Contracts see its line, without where that lies in memory.
-impl<'a> Model for Row<'a> {
+impl<'a> Model for ReportRow<'a> {
     ghost use Rattle.std.specs.Prelude.{option_map};
     ghost use Rattle.report.specs.Report.{Line};
     ghost use Rattle.report.specs.inner.Fates.{fate_of};
@@ -70,7 +70,7 @@ fn name_of<'a>(
 }
 
 // What became of an entry, if anything did.
-fn fate_of<'a>(entry: &Entry, records: &'a [(Address, Outcome)]) -> Option<Fate<'a>>
+fn fate_of<'a>(entry: &HarvestEntry, records: &'a [(Address, Outcome)]) -> Option<Fate<'a>>
     ensures { option_map fate_of result ≡ fate_at records.now entry.now.refused entry.now.answer }
 {
     if entry.refused {
@@ -84,14 +84,14 @@ fn fate_of<'a>(entry: &Entry, records: &'a [(Address, Outcome)]) -> Option<Fate<
 fn row_of<'a, B: Drop>(
     harvest: &'a Harvest<B>,
     names: &'a [String],
-    entry: &'a Entry,
+    entry: &'a HarvestEntry,
     fate: Fate<'a>,
     near: usize,
-) -> Row<'a>
+) -> ReportRow<'a>
     requires { length names.now ≡ length harvest.now.kept }
     ensures { result ≡ line_with harvest.now (map string_bytes names.now) entry.now (fate_of fate.entry) }
 {
-    Row {
+    ReportRow {
         address: entry.address.as_str(),
         depth: entry.depth,
         fate,
@@ -104,7 +104,7 @@ pub(crate) fn rows_of<'a, B: Drop>(
     alloc: Global,
     harvest: &'a Harvest<B>,
     names: &'a [String],
-) -> Result<Vec<Row<'a>>, AllocError>
+) -> Result<Vec<ReportRow<'a>>, AllocError>
     requires { length names.now ≡ length harvest.now.kept }
     ensures rows { IfOk result (λ rows. rows.items ≡ harvest_lines_of harvest.now (map string_bytes names.now)) }
     ensures entries { AreEntries harvest.now }

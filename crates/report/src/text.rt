@@ -6,7 +6,7 @@ ghost use Rattle.report.specs.inner.Fates.{fate_of};
 ghost use Rattle.report.specs.Entries.{harvest_lines_of};
 ghost use Rattle.report.specs.inner.OutcomeWord.{word_bytes};
 
-use crate::rows::{Fate, Row, rows_of};
+use crate::rows::{Fate, ReportRow, rows_of};
 use fetcher::{FaultKind, Outcome};
 use harvest::Harvest;
 use std::alloc::{AllocError, Global};
@@ -84,7 +84,7 @@ impl Counts {
     ghost use Rattle.report.specs.Report.{was_asked, was_refused, has_failed, count_of, count_kept};
 
     // The counts of these rows.
-    fn of(rows: &[Row<'_>]) -> Counts
+    fn of(rows: &[ReportRow<'_>]) -> Counts
         ensures asked { result.asked ≡ count_of was_asked rows.now }
         ensures kept { result.kept ≡ count_kept rows.now }
         ensures refused { result.refused ≡ count_of was_refused rows.now }
@@ -100,28 +100,28 @@ impl Counts {
 }
 
 // How many of these rows were requested.
-fn count_asked(rows: &[Row<'_>]) -> usize
+fn count_asked(rows: &[ReportRow<'_>]) -> usize
     ensures { result ≡ count_of was_asked rows.now }
 {
     rows.iter().filter(|row| was_asked(row.fate)).count()
 }
 
 // How many of their pages are kept.
-fn count_kept(rows: &[Row<'_>]) -> usize
+fn count_kept(rows: &[ReportRow<'_>]) -> usize
     ensures { result ≡ count_kept rows.now }
 {
     rows.iter().filter(|row| is_kept(row)).count()
 }
 
 // How many of them robots rules refuse.
-fn count_refused(rows: &[Row<'_>]) -> usize
+fn count_refused(rows: &[ReportRow<'_>]) -> usize
     ensures { result ≡ count_of was_refused rows.now }
 {
     rows.iter().filter(|row| was_refused(row.fate)).count()
 }
 
 // How many of them were requested, and failed.
-fn count_failed(rows: &[Row<'_>]) -> usize
+fn count_failed(rows: &[ReportRow<'_>]) -> usize
     ensures { result ≡ count_of has_failed rows.now }
 {
     rows.iter().filter(|row| has_failed(row.fate)).count()
@@ -142,7 +142,7 @@ fn was_refused(fate: Fate<'_>) -> bool
 }
 
 // Whether its page is kept.
-fn is_kept(row: &Row<'_>) -> bool
+fn is_kept(row: &ReportRow<'_>) -> bool
     ensures { result ≡ is_kept row.now }
 {
     row.name.is_some()
@@ -159,7 +159,7 @@ fn has_failed(fate: Fate<'_>) -> bool
 }
 
 // Adds the line of one address.
-fn push_line(text: &mut String, row: &Row<'_>) -> Result<(), AllocError>
+fn push_line(text: &mut String, row: &ReportRow<'_>) -> Result<(), AllocError>
     ensures ok { OnOk result (string_bytes text.new ≡ string_bytes text.old ++ line_text row.now) }
 {
     let depth = row.depth;
@@ -186,7 +186,7 @@ fn push_counts(text: &mut String, counts: Counts) -> Result<(), AllocError>
 }
 
 /// Adds the report over these rows.
-pub(crate) fn push_report(text: &mut String, rows: &[Row<'_>]) -> Result<(), AllocError>
+pub(crate) fn push_report(text: &mut String, rows: &[ReportRow<'_>]) -> Result<(), AllocError>
     ensures ok { OnOk result (string_bytes text.new ≡ string_bytes text.old ++ report_text rows.now) }
 {
     for row in rows {

@@ -26,10 +26,15 @@ fn push_word(text: &mut String, word: &str, of: &str) -> Result<(), AllocError>
 }
 
 // Adds a line of what a worker did, to which address or origin.
-fn push_did(text: &mut String, word: &str, worker: u32, of: &str) -> Result<(), AllocError>
-    ensures ok { OnOk result (string_bytes text.new ≡ string_bytes text.old ++ (word.now ++ codes " " ++ decimal worker ++ codes " " ++ of.now ++ codes "\n")) }
+fn push_worker_event(
+    text: &mut String,
+    word: &str,
+    worker: u32,
+    target: &str,
+) -> Result<(), AllocError>
+    ensures ok { OnOk result (string_bytes text.new ≡ string_bytes text.old ++ (word.now ++ codes " " ++ decimal worker ++ codes " " ++ target.now ++ codes "\n")) }
 {
-    writeln!(text, "{word} {worker} {of}")
+    writeln!(text, "{word} {worker} {target}")
 }
 
 // Adds a line of how many edges of an address were gone through.
@@ -51,10 +56,15 @@ fn push_event(text: &mut String, event: &Event) -> Result<(), AllocError>
 {
     match event {
         Event::Opened(start) => push_word(text, "opened", start.as_str()),
-        Event::Page(worker, address) => push_did(text, "page", *worker, address.as_str()),
-        Event::Rules(worker, origin) => push_did(text, "rules", *worker, origin.as_str()),
-        Event::Answer(worker, address) => push_did(text, "answer", *worker, address.as_str()),
-        Event::Ruled(worker, origin) => push_did(text, "ruled", *worker, origin.as_str()),
+        Event::Page(worker, address) => push_worker_event(text, "page", *worker, address.as_str()),
+        Event::Rules(worker, origin) => push_worker_event(text, "rules", *worker, origin.as_str()),
+        Event::Answer(worker, address) => push_worker_event(
+            text,
+            "answer",
+            *worker,
+            address.as_str(),
+        ),
+        Event::Ruled(worker, origin) => push_worker_event(text, "ruled", *worker, origin.as_str()),
         Event::Spread(depth, address, count) => push_edges(
             text,
             "spread",
@@ -69,8 +79,18 @@ fn push_event(text: &mut String, event: &Event) -> Result<(), AllocError>
             address.as_str(),
             *count,
         ),
-        Event::Abandon(worker, address) => push_did(text, "abandon", *worker, address.as_str()),
-        Event::AbandonRules(worker, origin) => push_did(text, "abandon", *worker, origin.as_str()),
+        Event::Abandon(worker, address) => push_worker_event(
+            text,
+            "abandon",
+            *worker,
+            address.as_str(),
+        ),
+        Event::AbandonRules(worker, origin) => push_worker_event(
+            text,
+            "abandon",
+            *worker,
+            origin.as_str(),
+        ),
         Event::Stop(cause) => push_word(text, "stop", cause_word(*cause)),
     }
 }

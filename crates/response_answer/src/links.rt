@@ -7,7 +7,7 @@ ghost use Rattle.html_links.specs.declared.links.LinkKind.TheVariants as link;
 use address::{Address, AddressFault};
 use css_links::Found as Reference;
 use fetcher::{Edge, EdgeKind, Edges};
-use html_links::{Found, LinkKind, LinkRules, Scan};
+use html_links::{FoundLink, LinkKind, LinkRules, Scan};
 use std::alloc::{AllocError, Global};
 
 /// What a text names from a base. Fails only if memory runs out.
@@ -49,7 +49,7 @@ fn add_edge(
     edges: &mut Vec<Edge>,
     base: &Address,
     rules: LinkRules,
-    link: &Found,
+    link: &FoundLink,
 ) -> Result<(), AllocError>
     ensures { OnOk result (edges.new.items ≡ edges.old.items ++ edge_of rules base.now link.now) }
 {
@@ -70,7 +70,7 @@ fn edges_from(
     alloc: Global,
     base: &Address,
     rules: LinkRules,
-    links: &[Found],
+    links: &[FoundLink],
 ) -> Result<Vec<Edge>, AllocError>
     ensures { IfOk result (λ edges. edges.items ≡ edges_from rules base.now links.now) }
 {
@@ -97,7 +97,7 @@ fn edges_by(
     at: &Address,
     base: &Option<Address>,
     rules: LinkRules,
-    links: &[Found],
+    links: &[FoundLink],
 ) -> Result<Vec<Edge>, AllocError>
     ensures { IfOk result (λ edges. edges.items ≡ edges_from rules (base_or at.now base.now) links.now) }
 {

@@ -11,7 +11,7 @@ use crate::links::{named, page_edges, sheet_edges};
 use address::Address;
 use css_links::Scanner as SheetScanner;
 use fetcher::{Outcome, is_redirect, is_successful};
-use html_links::{LinkRules, Scanner};
+use html_links::{HtmlScanner, LinkRules};
 use std::alloc::{AllocError, Global};
 
 /// How many bytes of a page of HTML, or of a style sheet, are looked through for links: a page without end has no end of links either.
@@ -25,7 +25,7 @@ pub(crate) enum Stage {
     /// A redirect, with its status and its Location.
     Redirect(u16, Vec<u8>),
     /// A page of HTML, with its status, what was found in it so far, and how many bytes more are looked through.
-    Page(u16, Scanner, usize),
+    Page(u16, HtmlScanner, usize),
     /// A style sheet, with its status, what was found in it so far, and how many bytes more are looked through.
     Sheet(u16, SheetScanner, usize),
     /// Neither, with its status.
@@ -58,7 +58,7 @@ impl Stage {
             };
         }
         if is_document(head) {
-            let scanner = Scanner::with_syntax(alloc, page_syntax(head));
+            let scanner = HtmlScanner::with_syntax(alloc, page_syntax(head));
             return Ok(Stage::Page(head.status, scanner, MAX_SCANNED));
         }
         if is_sheet(head) {

@@ -33,7 +33,7 @@ pub(crate) struct DiskLog {
 
 /// A disk to which something befalls.
 #[derive(Drop)]
-pub(crate) struct Disk {
+pub(crate) struct FaultyDisk {
     rt: HostRuntime,
     log: Arc<DiskLog>,
 }
@@ -108,8 +108,12 @@ impl DiskLog {
     }
 }
 
-impl Disk {
-    pub(crate) fn new(rt: HostRuntime, alloc: Global, mishap: Mishap) -> Result<Disk, AllocError> {
+impl FaultyDisk {
+    pub(crate) fn new(
+        rt: HostRuntime,
+        alloc: Global,
+        mishap: Mishap,
+    ) -> Result<FaultyDisk, AllocError> {
         let log = DiskLog {
             mishap,
             calls: AtomicU64::new(0),
@@ -118,7 +122,7 @@ impl Disk {
             held: AtomicU64::new(0),
             is_over: AtomicBool::new(false),
         };
-        Ok(Disk {
+        Ok(FaultyDisk {
             rt,
             log: Arc::new(alloc, log)?,
         })
@@ -159,7 +163,7 @@ impl Disk {
     }
 }
 
-impl Files for Disk {
+impl Files for FaultyDisk {
     type File = DiskFile;
 
     type Dir = <HostRuntime as Files>::Dir;

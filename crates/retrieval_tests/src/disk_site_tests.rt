@@ -1,5 +1,5 @@
 //! Sites that are put on a disk by a crew: as many files as one after another would be, with the same bytes, and no part stays.
-use crate::disk::{Disk, Mishap};
+use crate::disk::{FaultyDisk, Mishap};
 use crate::rows::plan;
 use address::{Address, Origin};
 use fetcher::{Answer, Ask, Body, Fetcher};
@@ -23,7 +23,7 @@ const DIRECTORIES: u16 = 7;
 #[derive(Drop)]
 struct InThreads<'a, T> {
     threads: &'a T,
-    disk: &'a Disk,
+    disk: &'a FaultyDisk,
 }
 
 /// Writes these parts.
@@ -45,7 +45,7 @@ impl<'a, T: Threads> PartCrew for InThreads<'a, T> {
 /// Writes these parts in another thread, while names are given in this one.
 fn write_in_another<T: Threads, N: Naming>(
     threads: &T,
-    disk: &Disk,
+    disk: &FaultyDisk,
     parts: &mut [FilePart<'_>],
     naming: &mut N,
 ) {
@@ -285,7 +285,7 @@ where
 /// Puts a site by threads into the folder `disk`. Returns the same.
 fn put_by_threads<R: Abort + Threads + AllocGlobal>(
     rt: &R,
-    disk: &Disk,
+    disk: &FaultyDisk,
     site: &KeptSite,
 ) -> (usize, Option<ErrorKind>) {
     let crew = InThreads { threads: rt, disk };
@@ -305,7 +305,7 @@ fn put_all(folder: &mut impl Folder, site: &KeptSite) -> usize {
 }
 
 /// Does so in the folder `disk`.
-fn put_in_turn(rt: &impl Abort, alloc: Global, disk: &Disk, site: &KeptSite) -> usize {
+fn put_in_turn(rt: &impl Abort, alloc: Global, disk: &FaultyDisk, site: &KeptSite) -> usize {
     let mut folder = folder(rt, alloc, disk);
     let whole = put_all(&mut folder, site);
     drop(folder);
@@ -313,9 +313,9 @@ fn put_in_turn(rt: &impl Abort, alloc: Global, disk: &Disk, site: &KeptSite) -> 
 }
 
 /// A disk of the test to which something befalls.
-fn disk(rt: HostRuntime, alloc: Global, mishap: Mishap) -> Result<Disk, AllocError> {
+fn disk(rt: HostRuntime, alloc: Global, mishap: Mishap) -> Result<FaultyDisk, AllocError> {
     clear(&rt, alloc);
-    Disk::new(rt, alloc, mishap)
+    FaultyDisk::new(rt, alloc, mishap)
 }
 
 /// Whether a crew puts a site whole onto a disk.
@@ -335,7 +335,7 @@ where
 /// Whether threads do, and no part stays.
 fn is_put_by_threads<R: Abort + Threads + Files + AllocGlobal + Clone + Drop>(
     rt: &R,
-    disk: &Disk,
+    disk: &FaultyDisk,
     site: &KeptSite,
 ) -> bool {
     let crew = InThreads { threads: rt, disk };
@@ -410,7 +410,7 @@ fn size_of(site: &KeptSite) -> u64 {
 /// Whether a disk takes as many of 300 files by threads as in turn: all, or those that it has room for if it is full.
 fn holds_as_many<R: Abort + Threads + Files + AllocGlobal + Clone + Drop>(
     rt: &R,
-    disk: &Disk,
+    disk: &FaultyDisk,
     site: &KeptSite,
     in_turn: usize,
     is_full: bool,
@@ -475,7 +475,7 @@ fn is_bare(rt: &impl Files) -> bool {
 /// Whether whole files of a site of 20 are put onto a disk of which so many calls fail in turn.
 fn are_put_whole<R: Abort + Threads + Files + AllocGlobal + Clone + Drop>(
     rt: &R,
-    disk: &Disk,
+    disk: &FaultyDisk,
     site: &KeptSite,
     lasting: u64,
 ) -> bool {
@@ -492,7 +492,7 @@ fn are_put_whole<R: Abort + Threads + Files + AllocGlobal + Clone + Drop>(
 /// Whether they are, and all once the disk is mended.
 fn leaves_whole_files<R: Abort + Threads + Files + AllocGlobal + Clone + Drop>(
     rt: &R,
-    disk: &Disk,
+    disk: &FaultyDisk,
     site: &KeptSite,
     lasting: u64,
 ) -> bool {

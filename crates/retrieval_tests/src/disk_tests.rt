@@ -1,6 +1,6 @@
 //! Files on a disk: made with their directories, and replaced; a disk that fails, and one that another process uses. Names are in a
 //! text with a blank between two.
-use crate::disk::{Disk, DiskLog, Mishap};
+use crate::disk::{DiskLog, FaultyDisk, Mishap};
 use local_tree::{Close, DiskFolder, Folder, Lock};
 use std::alloc::Global;
 use std::fs;
@@ -211,7 +211,7 @@ where
 fn a_disk_that_fails_leaves_each_file_whole(rt: HostRuntime) {
     for lasting in [1, u64::MAX] {
         for from in 0..80u64 {
-            let disk = Disk::new(rt, rt.alloc(), Mishap::Fails(from, lasting));
+            let disk = FaultyDisk::new(rt, rt.alloc(), Mishap::Fails(from, lasting));
             let disk = disk.expect(&rt, "memory");
             assert!(rt;
                 stays_whole(&rt, &disk, disk.log(), from, lasting),
@@ -265,7 +265,12 @@ where
 }
 
 // Whether the put ends as it is to, with the file whole if it ends well, and neither a part of it nor anything outside.
-fn meets<R: Abort + Files + AllocGlobal>(rt: &R, disk: &Disk, file: &str, ends: &str) -> bool {
+fn meets<R: Abort + Files + AllocGlobal>(
+    rt: &R,
+    disk: &FaultyDisk,
+    file: &str,
+    ends: &str,
+) -> bool {
     let is_put = puts_new(rt, disk, file);
     is_put == (ends == "whole")
         && holds_below(rt, "disk", file, NEW) == is_put
@@ -278,7 +283,7 @@ fn meets<R: Abort + Files + AllocGlobal>(rt: &R, disk: &Disk, file: &str, ends: 
 fn what_another_process_makes_is_seen(rt: HostRuntime) {
     for line in MEETINGS.lines() {
         let (file, mishap, ends) = meeting_of(&rt, line);
-        let disk = Disk::new(rt, rt.alloc(), mishap).expect(&rt, "memory");
+        let disk = FaultyDisk::new(rt, rt.alloc(), mishap).expect(&rt, "memory");
         assert!(rt; meets(&rt, &disk, file, ends), "{line}");
         drop(disk);
     }

@@ -3,7 +3,7 @@ use crate::rows::plan;
 use address::Address;
 use fetcher::{Edge, EdgeKind, Edges, Outcome};
 use frontier_core::{Cause, Frontier, Permit, Work};
-use frontier_lock::{Done, FrontierLock, Held, Refused};
+use frontier_lock::{Done, FrontierLock, HeldPermit, Refused};
 use std::alloc::Global;
 use std::process::Abort;
 use std::sync::Wait;
@@ -56,11 +56,11 @@ fn tell(rt: &impl Wait, lock: &FrontierLock, work: Work) -> Told {
         Work::Quiet => Told::Quiet,
         Work::Busy => Told::Busy,
         Work::Page(permit) => {
-            lock.halt(rt, Some(Held::Page(permit)), Cause::Mismatch);
+            lock.halt(rt, Some(HeldPermit::Page(permit)), Cause::Mismatch);
             Told::Permit
         }
         Work::Robots(permit) => {
-            lock.halt(rt, Some(Held::Rules(permit)), Cause::Mismatch);
+            lock.halt(rt, Some(HeldPermit::Rules(permit)), Cause::Mismatch);
             Told::Permit
         }
     }
@@ -88,11 +88,11 @@ fn permit_of<R: Abort + Wait>(rt: &R, lock: &FrontierLock, work: Work) -> Permit
 }
 
 /// The permit of an answer that wasn't taken.
-fn held_of(refused: Refused) -> Held {
+fn held_of(refused: Refused) -> HeldPermit {
     let Refused { done, fault: _ } = refused;
     match done {
-        Done::Page(permit, _) => Held::Page(permit),
-        Done::Rules(permit, _) => Held::Rules(permit),
+        Done::Page(permit, _) => HeldPermit::Page(permit),
+        Done::Rules(permit, _) => HeldPermit::Rules(permit),
     }
 }
 
@@ -199,7 +199,7 @@ fn go_astray<R: Abort + Wait>(rt: &R, own: &FrontierLock, other: &FrontierLock) 
             panic!(rt; "a stray permit was taken");
         }
         Err(refused) => match held_of(refused) {
-            Held::Page(permit) => {
+            HeldPermit::Page(permit) => {
                 let work = exchange(rt, own, permit, Outcome::Leaf(200));
                 assert!(rt; tell(rt, own, work) == Told::Quiet);
             }
@@ -223,7 +223,7 @@ fn a_stray_answer_comes_back(rt: HostRuntime) {
 fn stop_twice<R: Abort + Wait>(rt: &R, lock: &FrontierLock) {
     let permit = page_permit(rt, lock, 0);
     lock.halt(rt, None, Cause::Full);
-    lock.halt(rt, Some(Held::Page(permit)), Cause::Memory);
+    lock.halt(rt, Some(HeldPermit::Page(permit)), Cause::Memory);
     assert!(rt; told_now(rt, lock) == Told::Stopped(Cause::Full));
 }
 
@@ -296,7 +296,7 @@ fn end_permit<R: Abort + Wait>(
     let_others_run();
     match answer {
         Some(outcome) => give(rt, lock, permit, outcome),
-        None => lock.halt(rt, Some(Held::Page(permit)), Cause::Memory),
+        None => lock.halt(rt, Some(HeldPermit::Page(permit)), Cause::Memory),
     }
 }
 

@@ -42,7 +42,7 @@ use Rattle.workers.specs.declared.retrieval.Halt.{Halt}
 use Rattle.retriever.specs.Parts.{shown_of}
 use Rattle.retriever.specs.inner.Parts.{HasKinds, IsOutputOf, IsRetrievalTold, IsRead, is_borne_out}
 use Rattle.retriever.specs.Retrieved.{IsPartOf, AreEventsOf, AreShown, HasStopped, Retrieved, Stopped, Finishes}
-use Rattle.retriever.specs.declared.told.Output.{Output}
+use Rattle.retriever.specs.declared.render.RunOutput.{RunOutput}
 use Rattle.std.specs.declared.alloc.AllocError.{AllocError}
 use Rattle.kept_bodies.specs.Bodies.{BodyValue}
 use Rattle.retriever.specs.Keeping.{kind_in, kinds_of}
@@ -176,7 +176,7 @@ stopped order may_say may_rule site asks why.Quota h fits stop many never limitl
 
 -- what is written of either is written of how the retrieval of the site finishes
 pub told_finishes : (order : Order) (may_say : Text → Outcome → BodyValue → Type 0) (may_rule : Text → RuleSetValue → Type 0) (site : RecordedAnswers) (asks : List Ask) (r : Result (Harvested BodyValue) (Halt BodyValue))
-    (result : Result Output AllocError) → Fits may_say may_rule (whole_of site) → HasKinds may_say site → IfOk r (λ h. IsRetrieved may_say may_rule order.plan asks h)
+    (result : Result RunOutput AllocError) → Fits may_say may_rule (whole_of site) → HasKinds may_say site → IfOk r (λ h. IsRetrieved may_say may_rule order.plan asks h)
     → IfOk r (λ h. IsCompleteFor (policy order.plan) (whole_of site) h.state)
     → IfErr r (λ halt. halt.cause ≢ why.Mismatch → IsStopped may_say may_rule order.plan asks halt.cause halt.harvest)
     → IfErr r (λ halt. halt.cause ≡ why.Full → HasTooMany (policy order.plan) (whole_of site)) → (order.workers ≡ 1 → IfErr r (λ halt. halt.cause ≢ why.Mismatch))

@@ -8,8 +8,8 @@ use Rattle.std.proofs.lemmas.Slice.Eq.{bytes_eq-Decides}
 use Rattle.fetcher.specs.declared.edge.EdgeKind.{EdgeKind}
 use Rattle.address.specs.Address.{host_of}
 use Rattle.follow_filters.specs.declared.plan.Plan.{Plan}
-use Rattle.follow_filters.specs.declared.rule.Rule.{Rule}
-use Rattle.follow_filters.specs.declared.rule.Rule.TheVariants as rule
+use Rattle.follow_filters.specs.declared.rule.FollowRule.{FollowRule}
+use Rattle.follow_filters.specs.declared.rule.FollowRule.TheVariants as rule
 use Rattle.follow_filters.specs.Plans.{starts}
 use Rattle.follow_filters.specs.Rules.{rules, leads_anywhere, meets, follows_of, has_host_of, is_below, has_start_host, is_below_start}
 use Rattle.follow_filters.proofs.EdgeLaws.{HasStarts}
@@ -96,7 +96,7 @@ module _ (p q : Plan) (part : IsPlanOfPart p q) (start address : List ℕ) (mine
       (λ no. ⊎_elim (λ also. let found : list_any test (starts p) ≡ true = any_where test (starts q) (starts p) (λ other among passed. part.among other among) also in cc) (λ none. no ∙ sym none) (cases_Bool (list_any test (starts q))))
       (cases_Bool (list_any test (starts p)))
 
-  meets_of_part : (page : List ℕ) (kind : EdgeKind) (r : Rule) → meets r p page kind address ≡ meets r q page kind address
+  meets_of_part : (page : List ℕ) (kind : EdgeKind) (r : FollowRule) → meets r p page kind address ≡ meets r q page kind address
   unfolding meets
   meets_of_part page kind rule.RobotsFile = refl
   meets_of_part page kind rule.Host =

@@ -16,7 +16,7 @@ use Rattle.harvest.specs.Entries.{Seen, seen_of, seen_in, said_by, is_refused, I
 use Rattle.harvest.specs.Gathered.{AreEntries, AreRecords}
 use Rattle.harvest.specs.Harvests.{Harvested}
 use Rattle.workers.specs.Sites.{IsCompleteFor}
-use Rattle.harvest.specs.declared.entry.Entry.{Entry}
+use Rattle.harvest.specs.declared.entry.HarvestEntry.{HarvestEntry}
 use Rattle.report.specs.Report.{Line, Fate, Asked, Refused}
 use Rattle.report.specs.Entries.{fate_at, name_among, line_at, harvest_lines_of}
 use Rattle.retriever.specs.Mirrored.{AreRecordsOf}
@@ -76,13 +76,13 @@ line_true p whole h names are records once complete line among =
     let said = line_is h names e _ line is in
     let stands = held h are once e there in
     let (k, lt, at) = there in
-    let placed = subst (λ (z : Entry). IsPlaceOf h.records z.address z.answer) at (are.places k e lt) in (
+    let placed = subst (λ (z : HarvestEntry). IsPlaceOf h.records z.address z.answer) at (are.places k e lt) in (
       subst (λ (u : Text). IsDepth p whole u line.depth) said.address
           (subst (λ (n : ℕ). IsDepth p whole e.address n) (stands.depth ∙ said.depth) (complete.depths e.address stands.slot stands.found)),
       subst (λ (u : Text). IsFate p whole u line.fate) said.address (fate e stands said.fate placed),
     )
   where
-    fate : (e : Entry) → Holds h.state e.address e.depth e.refused → fate_at h.records e.refused e.answer ≡ Some line.fate → IsPlaceOf h.records e.address e.answer
+    fate : (e : HarvestEntry) → Holds h.state e.address e.depth e.refused → fate_at h.records e.refused e.answer ≡ Some line.fate → IsPlaceOf h.records e.address e.answer
         → IsFate p whole e.address line.fate
     fate e stands is placed =
         elim (fate_from h.records e.address e.refused e.answer line.fate placed is) [
@@ -93,12 +93,12 @@ line_true p whole h names are records once complete line among =
         ]
 
 -- an entry of which something became has a line
-has_line : {B : Type 0} (h : Harvested B) (names : List (List ℕ)) (e : Entry) (fate : Fate) → Contains h.entries e → fate_at h.records e.refused e.answer ≡ Some fate
+has_line : {B : Type 0} (h : Harvested B) (names : List (List ℕ)) (e : HarvestEntry) (fate : Fate) → Contains h.entries e → fate_at h.records e.refused e.answer ≡ Some fate
     → Contains (harvest_lines_of h names) (record { address = e.address; depth = e.depth; fate = fate; name = name_among h.kept names e.address })
 has_line h names e fate there is = to_given (line_at h names) h.entries e _ there (rw is refl)
 
 -- something became of each entry that was answered or that robots rules refuse
-something : {B : Type 0} (h : Harvested B) → AreEntries h → AreRecords h → (e : Entry) → Contains h.entries e → (slot : Slot) → lookup h.state.entries e.address ≡ Some slot
+something : {B : Type 0} (h : Harvested B) → AreEntries h → AreRecords h → (e : HarvestEntry) → Contains h.entries e → (slot : Slot) → lookup h.state.entries e.address ≡ Some slot
     → is_refused (condition_of slot.progress) ≡ e.refused → Came slot.progress → (fate : Fate) × (fate_at h.records e.refused e.answer ≡ Some fate)
 something h are records e there slot found refusal came =
     elim came [
@@ -106,7 +106,7 @@ something h are records e there slot found refusal came =
       | told x free is ↦ (let (k, lt, at) = there in
           let recorded = Contains-permutation (filter_map record_of h.state.entries) h.records (e.address, x) records.same
           (to_given record_of h.state.entries (e.address, slot) (e.address, x) (found_stands h.state.entries e.address slot found) (rw is refl)) in
-          by_place e.answer e.refused (sym refusal ∙ free) (subst (λ (z : Entry). IsPlaceOf h.records z.address z.answer) at (are.places k e lt))
+          by_place e.answer e.refused (sym refusal ∙ free) (subst (λ (z : HarvestEntry). IsPlaceOf h.records z.address z.answer) at (are.places k e lt))
           (to_map (λ (r : Recorded). r.0) h.records (e.address, x) recorded))
     ]
   where

@@ -14,7 +14,7 @@ use Rattle.frontier_core.specs.Views.{condition_of}
 use Rattle.harvest.specs.Entries.{is_refused, IsPlaceOf}
 use Rattle.harvest.specs.Gathered.{AreEntries, AreRecords}
 use Rattle.harvest.specs.Harvests.{Harvested}
-use Rattle.harvest.specs.declared.entry.Entry.{Entry}
+use Rattle.harvest.specs.declared.entry.HarvestEntry.{HarvestEntry}
 use Rattle.report.specs.Report.{Line, Fate, Asked, Refused}
 use Rattle.report.specs.Entries.{fate_at, line_at, harvest_lines_of}
 use Rattle.report.proofs.ListLaws.{from_given}
@@ -57,13 +57,13 @@ front_line p h names are records sound closed line among =
     let said = line_is h names e _ line is in
     let stands = held h are sound.addresses e there in
     let (k, lt, at) = there in
-    let placed = subst (λ (z : Entry). IsPlaceOf h.records z.address z.answer) at (are.places k e lt) in
+    let placed = subst (λ (z : HarvestEntry). IsPlaceOf h.records z.address z.answer) at (are.places k e lt) in
     let (route, walk) = sound.routes e.address stands.slot stands.found in (
       (route, subst (λ (u : Text). Route p m route u line.depth) said.address (subst (λ (n : ℕ). Route p m route e.address n) (stands.depth ∙ said.depth) walk)),
       subst (λ (u : Text). IsFate p m u line.fate) said.address (fate e stands said.fate placed),
     )
   where
-    fate : (e : Entry) → Holds h.state e.address e.depth e.refused → fate_at h.records e.refused e.answer ≡ Some line.fate → IsPlaceOf h.records e.address e.answer
+    fate : (e : HarvestEntry) → Holds h.state e.address e.depth e.refused → fate_at h.records e.refused e.answer ≡ Some line.fate → IsPlaceOf h.records e.address e.answer
         → IsFate p (answers h.state) e.address line.fate
     fate e stands is placed =
         elim (fate_from h.records e.address e.refused e.answer line.fate placed is) [

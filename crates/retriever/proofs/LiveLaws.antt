@@ -324,8 +324,8 @@ found_end crew order old new shown (Finished (Stopped why.Mismatch)) (many, none
 found_end crew order old new shown (Finished (Stopped why.Quota)) never = never
 
 -- nothing is shown of a trace that isn't ordered
-unshown : (is_shown : Bool) (shown events : List Event) → shown ≡ shown_of is_shown events → is_shown ≡ false → trace_text shown ≡ []
-unshown is_shown shown events is off = ap trace_text (is ∙ ap (λ b. shown_of b events) off)
+unshown : (with_trace : Bool) (shown events : List Event) → shown ≡ shown_of with_trace events → with_trace ≡ false → trace_text shown ≡ []
+unshown with_trace shown events is off = ap trace_text (is ∙ ap (λ b. shown_of b events) off)
 
 untraced_end : {F B : Type 0} (crew : Crew F B) (order : Order) (old new : Holding) (shown : List Event) (ending : LiveEnd) → EndsLive crew order old new shown ending → order.trace ≡ false
     → trace_text shown ≡ []

@@ -22,7 +22,7 @@ use Rattle.retriever.specs.InputFound.{TellsSite}
 use Rattle.retriever.specs.Rejecting.{IfLog, IsLogOfCrew, IsLogOfEnd, IsLogOfSite, IsLogTaken, IsLogTold, IsRetrievedBy, TakesLog}
 use Rattle.retriever.specs.Site.{whole_of}
 use Rattle.retriever.specs.inner.Parts.{IsOutputOf}
-use Rattle.retriever.specs.declared.told.Output.{Output}
+use Rattle.retriever.specs.declared.render.RunOutput.{RunOutput}
 
 -- what is said of a log is said of what is taken of it
 pub logged_more : (IsLog IsMore : List ℕ → Type 0) (old new : Option (List ℕ)) → IsLogTaken IsLog old new → ((text : List ℕ) → IsLog text → IsMore text) → IsLogTaken IsMore old new
@@ -75,7 +75,7 @@ of_site order site may_say may_rule asks (Err halt) is complete text read = absu
 
 -- an output has the log that was made
 pub output_logged : (order : Order) (site : RecordedAnswers) (may_say : Text → Outcome → BodyValue → Type 0) (may_rule : Text → RuleSetValue → Type 0) (asks : List Ask) (r : Result (Harvested BodyValue) (Halt BodyValue))
-    (log : Option (Result (String Global) AllocError)) (result : Result Output AllocError) → IfLog (IsLogOfEnd r) log → IfOk r (λ h. IsRetrieved may_say may_rule order.plan asks h)
+    (log : Option (Result (String Global) AllocError)) (result : Result RunOutput AllocError) → IfLog (IsLogOfEnd r) log → IfOk r (λ h. IsRetrieved may_say may_rule order.plan asks h)
     → IfOk r (λ h. IsCompleteFor (policy order.plan) (whole_of site) h.state) → IfOk result (λ output. output.rejected ≡ log)
     → IfOk result (λ output. IsOutputOf order site (string_bytes output.text) output.status)
     → IfOk result (λ output. IsOutputOf order site (string_bytes output.text) output.status × IfLog (IsLogOfSite order site) output.rejected)

@@ -10,28 +10,28 @@ use Rattle.options.specs.declared.fault.LineFault.{LineFault}
 use Rattle.options.specs.declared.fault.LineFault.TheVariants as fault
 use Rattle.options.specs.declared.order.Order.{Order}
 use Rattle.retriever.specs.Telling.{GoesTo, IsRejectedPath, IsTelling, rejected_by, telling_by}
-use Rattle.retriever.specs.declared.telling.Telling.{Telling}
+use Rattle.retriever.specs.declared.telling.OutputTargets.{OutputTargets}
 
 -- as ordered
-pub telling_ordered : (words : List (List ℕ)) (order : Order) (r : Result Telling AllocError) → order_of words ≡ Ok (ordered_by order)
+pub telling_ordered : (words : List (List ℕ)) (order : Order) (r : Result OutputTargets AllocError) → order_of words ≡ Ok (ordered_by order)
     → IfOk r (λ t. GoesTo (t.is_quiet, option_map log_by t.log) (order.quiet, option_map log_by order.log)) → IfOk r (λ t. IsTelling words (t.is_quiet, option_map log_by t.log))
 telling_ordered words order (Ok t) says is = inl (is ∙ ap (telling_by words) (sym says))
 telling_ordered words order (Err short) says is = tt
 
-pub path_ordered : (words : List (List ℕ)) (order : Order) (r : Result Telling AllocError) → order_of words ≡ Ok (ordered_by order)
+pub path_ordered : (words : List (List ℕ)) (order : Order) (r : Result OutputTargets AllocError) → order_of words ≡ Ok (ordered_by order)
     → IfOk r (λ t. option_map string_bytes t.rejected ≡ order.rejected_log) → IfOk r (λ t. IsRejectedPath words (option_map string_bytes t.rejected))
 path_ordered words order (Ok t) says is = inl (is ∙ ap rejected_by (sym says))
 path_ordered words order (Err short) says is = tt
 
 -- as that of refused words
-pub telling_refused : (words : List (List ℕ)) (wrong : LineFault) (r : Result Telling AllocError) → (order_of words ≡ Err (without_kind wrong)) ⊎ IsUnsaid (seeks_in words) wrong → IfOk r (λ t. wrong ≢ fault.Memory)
+pub telling_refused : (words : List (List ℕ)) (wrong : LineFault) (r : Result OutputTargets AllocError) → (order_of words ≡ Err (without_kind wrong)) ⊎ IsUnsaid (seeks_in words) wrong → IfOk r (λ t. wrong ≢ fault.Memory)
     → IfOk r (λ t. GoesTo (t.is_quiet, option_map log_by t.log) (are_quiet words, None)) → IfOk r (λ t. IsTelling words (t.is_quiet, option_map log_by t.log))
 telling_refused words wrong (Ok t) (inl refused) other is = inl (is ∙ ap (telling_by words) (sym refused))
 telling_refused words wrong (Ok t) (inr (inl memory)) other is = absurd (other memory)
 telling_refused words wrong (Ok t) (inr (inr (large, seeks))) other is = inr (seeks, is)
 telling_refused words wrong (Err short) why other is = tt
 
-pub path_refused : (words : List (List ℕ)) (wrong : LineFault) (r : Result Telling AllocError) → (order_of words ≡ Err (without_kind wrong)) ⊎ IsUnsaid (seeks_in words) wrong → IfOk r (λ t. wrong ≢ fault.Memory)
+pub path_refused : (words : List (List ℕ)) (wrong : LineFault) (r : Result OutputTargets AllocError) → (order_of words ≡ Err (without_kind wrong)) ⊎ IsUnsaid (seeks_in words) wrong → IfOk r (λ t. wrong ≢ fault.Memory)
     → IfOk r (λ t. option_map string_bytes t.rejected ≡ None) → IfOk r (λ t. IsRejectedPath words (option_map string_bytes t.rejected))
 path_refused words wrong (Ok t) (inl refused) other is = inl (is ∙ ap rejected_by (sym refused))
 path_refused words wrong (Ok t) (inr (inl memory)) other is = absurd (other memory)

@@ -15,7 +15,7 @@ ghost use Rattle.retriever.specs.Run.{Runs};
 use crate::copies::{Copied, copies_of};
 use crate::fault::{Fault, fault_text};
 use crate::rejected::{hand_over, log_of};
-use crate::told::{Output, told_of};
+use crate::render::{RunOutput, render_retrieval};
 use html_links::LinkRules;
 use live_system::RejectedLog;
 use options::{Order, Source, read_order};
@@ -59,7 +59,7 @@ fn retrieve<H: Threads + Wait + Sync, F: Copied>(
     alloc: Global,
     order: &Order,
     site: &F,
-) -> Result<Output, AllocError>
+) -> Result<RunOutput, AllocError>
     ensures { (told : RecordedAnswers) → Fits (F.says (F.site site.now)) (F.rules (F.site site.now)) (whole_of told) → HasKinds (F.says (F.site site.now)) told
         → IfOk result (λ output. IsOutputOf order.now told (string_bytes output.text) output.status × IfLog (IsLogOfSite order.now told) output.rejected) }
 {
@@ -75,7 +75,7 @@ fn retrieve<H: Threads + Wait + Sync, F: Copied>(
     // They are dropped before a report is made.
     drop(copies);
     let rejected = log_of(alloc, order, &retrieved);
-    let told = told_of(alloc, &order.names, order.trace, &retrieved, rejected);
+    let told = render_retrieval(alloc, &order.names, order.trace, &retrieved, rejected);
     drop(retrieved);
     told
 }
@@ -86,7 +86,7 @@ fn output_of_map<H: Threads + Wait + Sync, R: Read>(
     alloc: Global,
     order: &Order,
     reader: &mut R,
-) -> Result<Output, Fault>
+) -> Result<RunOutput, Fault>
     ensures ok { IfOk result (λ output. IsOutput IsMapOf order.now (R.remaining reader.old) (string_bytes output.text) output.status) }
     ensures rejected { IfOk result (λ output. IfLog (IsLogTold IsMapOf order.now (R.remaining reader.old)) output.rejected) }
     ensures err { IfErr result (TellsFault IsFaultOfMap (R.remaining reader.old)) }
@@ -103,7 +103,7 @@ fn output_of_record<H: Threads + Wait + Sync, R: Read>(
     alloc: Global,
     order: &Order,
     reader: &mut R,
-) -> Result<Output, Fault>
+) -> Result<RunOutput, Fault>
     ensures ok { IfOk result (λ output. IsOutput (IsRecordOf order.now.links) order.now (R.remaining reader.old) (string_bytes output.text) output.status) }
     ensures rejected { IfOk result (λ output. IfLog (IsLogTold (IsRecordOf order.now.links) order.now (R.remaining reader.old)) output.rejected) }
     ensures err { IfErr result (TellsFault (IsFaultOfRecord order.now.links) (R.remaining reader.old)) }
@@ -120,7 +120,7 @@ fn output_of<H: Threads + Wait + Sync, R: Read>(
     alloc: Global,
     order: &Order,
     reader: &mut R,
-) -> Result<Output, Fault>
+) -> Result<RunOutput, Fault>
     ensures ok { IfOk result (λ output. IsOutput (IsToldBy order.now.source order.now.links) order.now (R.remaining reader.old) (string_bytes output.text) output.status) }
     ensures rejected { IfOk result (λ output. IfLog (IsLogOfInput order.now (R.remaining reader.old)) output.rejected) }
     ensures err { IfErr result (IsUnfit order.now (R.remaining reader.old)) }
@@ -199,7 +199,7 @@ pub(crate) fn run_and_log<H: Threads + Wait + Sync, R: Read, W: Write, L: Reject
 {
     match output_of(rt, alloc, order, reader) {
         Ok(output) => {
-            let Output {
+            let RunOutput {
                 text,
                 status,
                 rejected,

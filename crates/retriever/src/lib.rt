@@ -11,7 +11,7 @@ pub use crate::input_run::{run, run_of_order};
 pub use crate::live_run::live;
 pub use crate::program::run_program;
 pub use crate::saved_run::live_resumed;
-pub use crate::telling::{Telling, telling_of};
+pub use crate::telling::{OutputTargets, telling_of};
 pub use live_system::{HoldFault, System};
 pub use streams::{ReadInputFault, read_input};
 
@@ -26,7 +26,7 @@ mod moves;
 mod program;
 mod quota;
 mod rejected;
+mod render;
 mod resume_fault;
 mod saved_run;
 mod telling;
-mod told;

@@ -16,7 +16,7 @@ ghost use Rattle.retriever.specs.Run.{finish_text};
 
 use crate::link_change::LinkChange;
 use crate::quota::ByLength;
-use crate::told::{halt_text, telling_of};
+use crate::render::{halt_text, render_harvest};
 use fetcher::Fetcher;
 use frontier_core::Cause;
 use local_tree::{HasKind, Shelf, WriteFault, write_changed_site, write_site};
@@ -55,13 +55,13 @@ fn tell<W: Write>(writer: &mut W, text: &[u8], status: u8) -> Result<u8, WriteFa
 // Writes how a retrieval stopped.
 fn tell_halt<B: Drop, W: Write>(
     alloc: Global,
-    is_shown: bool,
+    with_trace: bool,
     halt: &Halt<B>,
     writer: &mut W,
 ) -> Result<u8, WriteFailed>
-    ensures { IsHaltTold (IsToldAs (W.contents writer.old) (W.contents writer.new) result) is_shown halt.now }
+    ensures { IsHaltTold (IsToldAs (W.contents writer.old) (W.contents writer.new) result) with_trace halt.now }
 {
-    match halt_text(alloc, is_shown, halt) {
+    match halt_text(alloc, with_trace, halt) {
         Ok(text) => tell(writer, text.as_bytes(), 1),
         Err(_) => tell(writer, bare_line(halt.cause).as_bytes(), 1),
     }
@@ -207,15 +207,15 @@ fn finish_harvest<B: HasKind + Drop, D: Shelf<B>, W: Write>(
     alloc: Global,
     converts: bool,
     naming: &PageNames,
-    is_shown: bool,
+    with_trace: bool,
     harvest: &Harvest<B>,
     folder: &mut D,
     writer: &mut W,
 ) -> Result<u8, WriteFailed>
-    ensures { IsHarvestPut converts (kept_as B.kind_of B.len_of D.holds) (IsToldAs (W.contents writer.old) (W.contents writer.new) result) naming.now is_shown harvest.now
+    ensures { IsHarvestPut converts (kept_as B.kind_of B.len_of D.holds) (IsToldAs (W.contents writer.old) (W.contents writer.new) result) naming.now with_trace harvest.now
         (holding D.files D.failed folder.old) (holding D.files D.failed folder.new) }
 {
-    match telling_of(alloc, naming, is_shown, harvest) {
+    match render_harvest(alloc, naming, with_trace, harvest) {
         Ok(telling) => put_and_tell(
             alloc,
             converts,
@@ -234,12 +234,12 @@ fn finish_halt<B: HasKind + Drop, D: Shelf<B>, W: Write>(
     alloc: Global,
     converts: bool,
     naming: &PageNames,
-    is_shown: bool,
+    with_trace: bool,
     halt: &Halt<B>,
     folder: &mut D,
     writer: &mut W,
 ) -> Result<u8, WriteFailed>
-    ensures { IsStopPut converts (kept_as B.kind_of B.len_of D.holds) (IsToldAs (W.contents writer.old) (W.contents writer.new) result) naming.now is_shown halt.now.cause halt.now.harvest
+    ensures { IsStopPut converts (kept_as B.kind_of B.len_of D.holds) (IsToldAs (W.contents writer.old) (W.contents writer.new) result) naming.now with_trace halt.now.cause halt.now.harvest
         (holding D.files D.failed folder.old) (holding D.files D.failed folder.new) }
 {
     match halt.cause {
@@ -247,14 +247,14 @@ fn finish_halt<B: HasKind + Drop, D: Shelf<B>, W: Write>(
             alloc,
             converts,
             naming,
-            is_shown,
+            with_trace,
             &halt.harvest,
             folder,
             writer,
         ),
-        Cause::Full => tell_halt(alloc, is_shown, halt, writer),
-        Cause::Memory => tell_halt(alloc, is_shown, halt, writer),
-        Cause::Mismatch => tell_halt(alloc, is_shown, halt, writer),
+        Cause::Full => tell_halt(alloc, with_trace, halt, writer),
+        Cause::Memory => tell_halt(alloc, with_trace, halt, writer),
+        Cause::Mismatch => tell_halt(alloc, with_trace, halt, writer),
     }
 }
 
@@ -264,17 +264,17 @@ pub(crate) fn finish<B: HasKind + Drop, D: Shelf<B>, W: Write>(
     alloc: Global,
     converts: bool,
     naming: &PageNames,
-    is_shown: bool,
+    with_trace: bool,
     retrieved: &Result<Harvest<B>, Halt<B>>,
     folder: &mut D,
     writer: &mut W,
 ) -> Result<u8, WriteFailed>
-    ensures { IsPutOf converts (kept_as B.kind_of B.len_of D.holds) (IsToldAs (W.contents writer.old) (W.contents writer.new) result) naming.now is_shown retrieved.now
+    ensures { IsPutOf converts (kept_as B.kind_of B.len_of D.holds) (IsToldAs (W.contents writer.old) (W.contents writer.new) result) naming.now with_trace retrieved.now
         (holding D.files D.failed folder.old) (holding D.files D.failed folder.new) }
 {
     match retrieved {
-        Ok(harvest) => finish_harvest(alloc, converts, naming, is_shown, harvest, folder, writer),
-        Err(halt) => finish_halt(alloc, converts, naming, is_shown, halt, folder, writer),
+        Ok(harvest) => finish_harvest(alloc, converts, naming, with_trace, harvest, folder, writer),
+        Err(halt) => finish_halt(alloc, converts, naming, with_trace, halt, folder, writer),
     }
 }
 

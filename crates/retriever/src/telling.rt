@@ -15,7 +15,7 @@ use std::io;
 
 /// Where a run writes its output.
 #[derive(Drop)]
-pub struct Telling {
+pub struct OutputTargets {
     /// Nothing is written.
     pub is_quiet: bool,
     /// The file that takes the report and what failed; without one they go to standard output and standard error.
@@ -24,7 +24,7 @@ pub struct Telling {
     pub rejected: Option<String>,
 }
 
-impl Telling {
+impl OutputTargets {
     ghost use Rattle.std.specs.Prelude.{◌≡◌};
 
     /// The path of that file, and whether it keeps what it has. Takes no memory.
@@ -39,18 +39,18 @@ impl Telling {
     pub fn into_rejected(self) -> Option<String>
         ensures { result ≡ self.rejected }
     {
-        let Telling { rejected, .. } = self;
+        let OutputTargets { rejected, .. } = self;
         rejected
     }
 }
 
 // The output for refused words goes to standard output and standard error, or to the latter alone.
-fn standard(is_quiet: bool) -> Telling
+fn standard(is_quiet: bool) -> OutputTargets
     ensures quiet { result.is_quiet ≡ is_quiet }
     ensures log { option_map log_by result.log ≡ None }
     ensures rejected { option_map string_bytes result.rejected ≡ None }
 {
-    Telling {
+    OutputTargets {
         is_quiet,
         log: None,
         rejected: None,
@@ -68,7 +68,7 @@ fn rejected_path(alloc: Global, order: &Order) -> Result<Option<String>, AllocEr
 }
 
 // By an order.
-fn telling_of_order(alloc: Global, order: Order) -> Result<Telling, AllocError>
+fn telling_of_order(alloc: Global, order: Order) -> Result<OutputTargets, AllocError>
     ensures telling { IfOk result (λ t. GoesTo (t.is_quiet, option_map log_by t.log) (order.quiet, option_map log_by order.log)) }
     ensures rejected { IfOk result (λ t. option_map string_bytes t.rejected ≡ order.rejected_log) }
 {
@@ -76,7 +76,7 @@ fn telling_of_order(alloc: Global, order: Order) -> Result<Telling, AllocError>
         drop(order);
         return Err(AllocError);
     };
-    Ok(Telling {
+    Ok(OutputTargets {
         is_quiet: order.quiet,
         log: order.into_log(),
         rejected,
@@ -88,7 +88,7 @@ fn telling_of_refused(
     alloc: Global,
     wrong: LineFault,
     words: &[&str],
-) -> Result<Telling, AllocError>
+) -> Result<OutputTargets, AllocError>
     ensures memory { IfOk result (λ t. wrong ≢ fault.Memory) }
     ensures telling { IfOk result (λ t. GoesTo (t.is_quiet, option_map log_by t.log) (are_quiet (map (λ word. word.now) words.now), None)) }
     ensures rejected { IfOk result (λ t. option_map string_bytes t.rejected ≡ None) }
@@ -100,7 +100,7 @@ fn telling_of_refused(
 }
 
 // By these words.
-fn telling_of_words(alloc: Global, words: &[&str]) -> Result<Telling, AllocError>
+fn telling_of_words(alloc: Global, words: &[&str]) -> Result<OutputTargets, AllocError>
     ensures telling { IfOk result (λ t. IsTelling (map (λ word. word.now) words.now) (t.is_quiet, option_map log_by t.log)) }
     ensures rejected { IfOk result (λ t. IsRejectedPath (map (λ word. word.now) words.now) (option_map string_bytes t.rejected)) }
 {
@@ -111,7 +111,7 @@ fn telling_of_words(alloc: Global, words: &[&str]) -> Result<Telling, AllocError
 }
 
 // By these words, the program's name first.
-fn telling_of_all(alloc: Global, all: &[String]) -> Result<Telling, AllocError>
+fn telling_of_all(alloc: Global, all: &[String]) -> Result<OutputTargets, AllocError>
     ensures telling { IfOk result (λ t. IsTelling (words_behind all.now) (t.is_quiet, option_map log_by t.log)) }
     ensures rejected { IfOk result (λ t. IsRejectedPath (words_behind all.now) (option_map string_bytes t.rejected)) }
 {
@@ -122,7 +122,7 @@ fn telling_of_all(alloc: Global, all: &[String]) -> Result<Telling, AllocError>
 /// Where the program writes its output, by its arguments, the program's name first: what they order says it. The output for
 /// refused words goes to standard output and standard error, or to the latter alone if they say that nothing is to be printed. The
 /// error is that memory ran out.
-pub fn telling_of(alloc: Global, args: io::Result<Args>) -> Result<Telling, AllocError>
+pub fn telling_of(alloc: Global, args: io::Result<Args>) -> Result<OutputTargets, AllocError>
     ensures ordered { IfOk args (λ all. IfOk result (λ t. IsTelling (words_behind (into_iter_items all)) (t.is_quiet, option_map log_by t.log))) }
     ensures rejected { IfOk args (λ all. IfOk result (λ t. IsRejectedPath (words_behind (into_iter_items all)) (option_map string_bytes t.rejected))) }
     ensures refused { IfErr args (λ error. IfOk result (λ t. (t.is_quiet ≡ false) × (option_map log_by t.log ≡ None) × (option_map string_bytes t.rejected ≡ None))) }

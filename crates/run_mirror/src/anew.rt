@@ -5,7 +5,7 @@ ghost use Rattle.run_mirror.specs.Mirrors.{outcome_among};
 ghost use Rattle.run_mirror.specs.Anew.{base_at, given, is_read, kind_if, IsAnswer};
 ghost use Rattle.run_mirror.specs.inner.Answers.{IsAnswerAs};
 
-use crate::kept_page::KeptPage;
+use crate::kept_page::PageFile;
 use crate::lookup::is_read;
 use crate::reading::reading_of;
 use crate::run_mirror::RunMirror;
@@ -91,7 +91,7 @@ impl<'a> RunMirror<'a> {
             return Ok(Anew::Left);
         };
         let base = base_of(address, &reading.found.base)?;
-        let page = KeptPage::new(alloc, self, file, &base);
+        let page = PageFile::new(alloc, self, file, &base);
         if stays(&page, &reading.found)? {
             return Ok(Anew::Same);
         }
@@ -110,7 +110,7 @@ impl<'a> RunMirror<'a> {
     ) -> Result<Anew, AllocError>
         ensures { IfOk result (λ anew. IsAnswerAs kinds.Sheet self.now address.now file.now body.now anew) }
     {
-        let sheet = KeptPage::new(alloc, self, file, address);
+        let sheet = PageFile::new(alloc, self, file, address);
         match rewrite_sheet(alloc, &sheet, body) {
             Ok(other) => Ok(answer(body, other)),
             Err(_) => Err(AllocError),

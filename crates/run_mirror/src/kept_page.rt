@@ -16,16 +16,16 @@ use std::alloc::{AllocError, Global};
 use std::marker::Model;
 
 /// A page of a run: its file, and the address to which its links are joined.
-pub(crate) struct KeptPage<'a> {
+pub(crate) struct PageFile<'a> {
     alloc: Global,
     mirror: &'a RunMirror<'a>,
     file: &'a str,
     base: &'a Address,
 }
 
-impl<'a> Drop for KeptPage<'a> {
+impl<'a> Drop for PageFile<'a> {
     fn drop(self) {
-        let KeptPage {
+        let PageFile {
             alloc: _alloc,
             mirror: _mirror,
             file: _file,
@@ -34,7 +34,7 @@ impl<'a> Drop for KeptPage<'a> {
     }
 }
 
-impl<'a> Model for KeptPage<'a> {
+impl<'a> Model for PageFile<'a> {
     ghost use Rattle.run_mirror.specs.Anew as spec;
 
     ghost Value = { spec.KeptPage };
@@ -42,7 +42,7 @@ impl<'a> Model for KeptPage<'a> {
     ghost view = { λ page. record { run = page.mirror.now; file = page.file.now; base = page.base.now } };
 }
 
-impl<'a> KeptPage<'a> {
+impl<'a> PageFile<'a> {
     pub(crate) fn new(
         alloc: Global,
         mirror: &'a RunMirror<'a>,
@@ -51,7 +51,7 @@ impl<'a> KeptPage<'a> {
     ) -> Self
         ensures { result ≡ record { run = mirror.now; file = file.now; base = base.now } }
     {
-        KeptPage {
+        PageFile {
             alloc,
             mirror,
             file,
@@ -105,7 +105,7 @@ impl<'a> KeptPage<'a> {
     }
 }
 
-impl<'a> PageChange for KeptPage<'a> {
+impl<'a> PageChange for PageFile<'a> {
     ghost becomes = { λ page form. becomes_in page form };
 
     ghost known = { λ page form old new. Leads page form old new };

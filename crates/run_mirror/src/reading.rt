@@ -7,7 +7,7 @@ ghost use Rattle.run_mirror.specs.inner.Readings.{by};
 use crate::anew::base_of;
 use address::{Address, AddressFault};
 use fetcher::Edge;
-use html_links::{Found, Scan, Syntax};
+use html_links::{FoundLink, Scan, Syntax};
 use memchr::memmem;
 use page_links::scan;
 use std::alloc::{AllocError, Global};
@@ -17,7 +17,7 @@ const NAMESPACE: &[u8] = b"http://www.w3.org/1999/xhtml";
 
 /// A syntax, and what a page has by it.
 #[derive(Drop)]
-pub(crate) struct Reading {
+pub(crate) struct PageReading {
     pub(crate) syntax: Syntax,
     pub(crate) found: Scan,
 }
@@ -33,14 +33,14 @@ fn scan_as(alloc: Global, syntax: Syntax, page: &[u8]) -> Result<Scan, AllocErro
 }
 
 /// Whether both are the same links.
-fn are_same(links: &[Found], others: &[Found]) -> bool {
+fn are_same(links: &[FoundLink], others: &[FoundLink]) -> bool {
     links.len() == others.len()
         && links.iter().zip(others.iter()).all(|(link, other)| link.kind == other.kind
             && link.text.as_str() == other.text.as_str())
 }
 
 /// Whether those of these links that are followed lead from this base where the edges lead.
-fn lead_to(base: &Address, links: &[Found], edges: &[Edge]) -> Result<bool, AllocError> {
+fn lead_to(base: &Address, links: &[FoundLink], edges: &[Edge]) -> Result<bool, AllocError> {
     let mut left = edges;
     for link in links {
         if !link.kind.is_followed() {
@@ -79,12 +79,12 @@ pub(crate) fn reading_of(
     address: &Address,
     edges: &[Edge],
     page: &[u8],
-) -> Result<Option<Reading>, AllocError>
+) -> Result<Option<PageReading>, AllocError>
     ensures { IfOk result (λ reading. MatchOption reading (Unit {0}) (λ reading. scanned reading.found ≡ links_of_body reading.syntax page.now)) }
 {
     let html = scan_as(alloc, Syntax::Html, page)?;
     if memmem::find(page, NAMESPACE).is_none() {
-        return Ok(Some(Reading {
+        return Ok(Some(PageReading {
             syntax: Syntax::Html,
             found: html,
         }));
@@ -98,16 +98,16 @@ fn choose(
     edges: &[Edge],
     html: Scan,
     xml: Scan,
-) -> Result<Option<Reading>, AllocError>
+) -> Result<Option<PageReading>, AllocError>
     ensures { IfOk result (λ reading. MatchOption reading (Unit {0}) (λ reading. scanned reading.found ≡ by reading.syntax (scanned html) (scanned xml))) }
 {
     if are_same(&html.links, &xml.links) || gives(address, &html, edges)? {
-        Ok(Some(Reading {
+        Ok(Some(PageReading {
             syntax: Syntax::Html,
             found: html,
         }))
     } else if gives(address, &xml, edges)? {
-        Ok(Some(Reading {
+        Ok(Some(PageReading {
             syntax: Syntax::Xml,
             found: xml,
         }))

@@ -10,7 +10,7 @@ use Rattle.site_maps.specs.RuleLines.{rule_word}
 use Rattle.site_maps.specs.inner.Said.{said}
 use Rattle.site_inputs.specs.declared.input_fault.InputLineFault.{InputLineFault}
 use Rattle.site_inputs.specs.declared.input_fault.InputLineFault.TheVariants.{Line, Address, Memory}
-use Rattle.site_maps.specs.declared.reading.Reading.{Reading}
+use Rattle.site_maps.specs.declared.reading.MapReading.{MapReading}
 use Rattle.site_maps.specs.inner.Readings.{Takes, Reads}
 use Rattle.fetcher.specs.declared.edge.EdgeKind.TheVariants.{Link, Inline, Redirect}
 use Rattle.std.proofs.lemmas.Grind.{common_steps}
@@ -72,7 +72,7 @@ no_rule line a d Allow rest h = a rest h
 no_rule line a d Disallow rest h = d rest h
 
 -- a line that is taken, or refused, as what it says
-pub reads_line : {U : Type 0} (old new : Reading) (r : Result U InputLineFault) (line : List ℕ) (s : Statement) → HasForm line s → Takes old s r new
+pub reads_line : {U : Type 0} (old new : MapReading) (r : Result U InputLineFault) (line : List ℕ) (s : Statement) → HasForm line s → Takes old s r new
     → Reads old line r new
 reads_line old new (Ok u) line s form takes above t = let h = takes above t in (s, form, h.0, h.1)
 reads_line old new (Err Line) line s form takes above t = inr (s, form, takes above t)

@@ -22,7 +22,7 @@ use Rattle.site_maps.specs.declared.open_robots.OpenRobots.{OpenRobots}
 use Rattle.site_maps.specs.declared.reading.OpenPage.{OpenPage}
 use Rattle.site_maps.specs.declared.reading.Open.{Open}
 use Rattle.site_maps.specs.declared.reading.Open.TheVariants.{Page, Robots}
-use Rattle.site_maps.specs.declared.reading.Reading.{Reading}
+use Rattle.site_maps.specs.declared.reading.MapReading.{MapReading}
 use Rattle.site_maps.specs.RuleLines.{file_head, file_line}
 use Rattle.site_maps.specs.Lines.{Statement, skipped, page, edge, moved, leaf, fault, robots, closed, rule}
 use Rattle.site_inputs.specs.Names.{named, IsNamed}
@@ -131,7 +131,7 @@ no_answer (Some (Page p)) h = absurd (h p refl)
 no_answer (Some (Robots r)) h = refl
 
 -- a line that is no page, edge or skipped line
-pub took_answers : (old new : Reading) (above : List Statement) (s : Statement) (stated : List (List ℕ × Outcome))
+pub took_answers : (old new : MapReading) (above : List Statement) (s : Statement) (stated : List (List ℕ × Outcome))
     → is_between s ≡ false → ¬ IsPage s → answers_of (s ∷ []) ≡ stated
     → TellsAnswers old above → ((p : OpenPage) → new.open ≢ Some (Page p)) → new.answers.entries ≡ answers_in old ++ stated → TellsAnswers new (above ++ s ∷ [])
 took_answers old new above s stated apart other shape t shut kept = record {
@@ -144,7 +144,7 @@ took_answers old new above s stated apart other shape t shut kept = record {
 }
 
 -- a page line
-pub took_page : (old new : Reading) (above : List Statement) (status : ℕ) (text : List ℕ) (p : OpenPage)
+pub took_page : (old new : MapReading) (above : List Statement) (status : ℕ) (text : List ℕ) (p : OpenPage)
     → TellsAnswers old above → read_address text ≡ Ok p.address → lookup (bytes_eq p.address) (answers_in old) ≡ None → p.status ≡ status → p.edges.items ≡ []
     → new.open ≡ Some (Page p) → new.answers.entries ≡ answers_in old → TellsAnswers new (above ++ page status text ∷ [])
 took_page old new above status text p t reads none same bare is kept = record {
@@ -173,7 +173,7 @@ last_page : (above : List Statement) (status : ℕ) (text : List ℕ) (between :
 last_page above status text between s e all = rw e (answers_of-open above status text between all)
 
 -- an edge line
-pub took_edge : (old new : Reading) (above : List Statement) (kind : EdgeKind) (text target : List ℕ) (p q : OpenPage)
+pub took_edge : (old new : MapReading) (above : List Statement) (kind : EdgeKind) (text target : List ℕ) (p q : OpenPage)
     → TellsAnswers old above → read_address text ≡ Ok target → old.open ≡ Some (Page p) → new.open ≡ Some (Page q) → q.address ≡ p.address → q.status ≡ p.status
     → q.edges.items ≡ p.edges.items ++ record { target = target; kind = kind } ∷ [] → new.answers.entries ≡ old.answers.entries
     → TellsAnswers new (above ++ edge kind text ∷ [])
@@ -218,7 +218,7 @@ no_rules (Some (Page p)) h = refl
 no_rules (Some (Robots r)) h = absurd (h r refl)
 
 -- a line that is no robots, rule or skipped line
-pub took_rules : (old new : Reading) (above : List Statement) (s : Statement) (stated : List (List ℕ × RuleSetValue))
+pub took_rules : (old new : MapReading) (above : List Statement) (s : Statement) (stated : List (List ℕ × RuleSetValue))
     → is_ruling s ≡ false → ¬ IsRobots s → rules_of (s ∷ []) ≡ stated
     → TellsRules old above → ((r : OpenRobots) → new.open ≢ Some (Robots r)) → new.rules.entries ≡ all_rules old ++ stated → TellsRules new (above ++ s ∷ [])
 took_rules old new above s stated apart other shape t shut kept = record {
@@ -231,7 +231,7 @@ took_rules old new above s stated apart other shape t shut kept = record {
 }
 
 -- a robots line
-pub took_robots : (old new : Reading) (above : List Statement) (text : List ℕ) (r : OpenRobots)
+pub took_robots : (old new : MapReading) (above : List Statement) (text : List ℕ) (r : OpenRobots)
     → TellsRules old above → origin_of (named text) ≡ r.origin → lookup (bytes_eq r.origin) (all_rules old) ≡ None → string_bytes r.file ≡ file_head
     → new.open ≡ Some (Robots r) → new.rules.entries ≡ all_rules old → TellsRules new (above ++ robots text ∷ [])
 took_robots old new above text r t names none bare is kept = record {
@@ -255,7 +255,7 @@ took_robots old new above text r t names none bare is kept = record {
 }
 
 -- the rules that are kept are those of the lines above the open origin
-rules_higher : (old : Reading) (above : List Statement) (r : OpenRobots) (t : TellsRules old above) (was : old.open ≡ Some (Robots r))
+rules_higher : (old : MapReading) (above : List Statement) (r : OpenRobots) (t : TellsRules old above) (was : old.open ≡ Some (Robots r))
     → rules_of (t.above_open r was).higher ≡ old.rules.entries
 rules_higher old above r t was =
     let h = t.above_open r was in
@@ -263,7 +263,7 @@ rules_higher old above r t was =
     (snoc_same (rules_of h.higher) old.rules.entries (origin_of (named h.text), rules_in (file_head ++ file_below h.between)) (r.origin, rules_in (string_bytes r.file)) before).0
 
 -- a rule line
-pub took_rule : (old new : Reading) (above : List Statement) (kind : RuleKind) (rest : List ℕ) (r q : OpenRobots)
+pub took_rule : (old new : MapReading) (above : List Statement) (kind : RuleKind) (rest : List ℕ) (r q : OpenRobots)
     → TellsRules old above → old.open ≡ Some (Robots r) → new.open ≡ Some (Robots q) → q.origin ≡ r.origin
     → string_bytes q.file ≡ string_bytes r.file ++ file_line kind rest → new.rules.entries ≡ old.rules.entries
     → TellsRules new (above ++ rule kind rest ∷ [])
@@ -298,7 +298,7 @@ took_rule old new above kind rest r q t was is origin file kept =
 -- ---- a skipped line
 
 -- the answers are as before
-skipped_answers : (r : Reading) (above : List Statement) → TellsAnswers r above → TellsAnswers r (above ++ skipped ∷ [])
+skipped_answers : (r : MapReading) (above : List Statement) → TellsAnswers r above → TellsAnswers r (above ++ skipped ∷ [])
 skipped_answers r above t = record {
   stated = answers_of-skipped above ∙ t.stated;
   above_open = λ h. still_above IsPage is_between above skipped refl (t.above_open h);
@@ -307,7 +307,7 @@ skipped_answers r above t = record {
 }
 
 -- and so are the rule sets
-skipped_rules : (r : Reading) (above : List Statement) → TellsRules r above → TellsRules r (above ++ skipped ∷ [])
+skipped_rules : (r : MapReading) (above : List Statement) → TellsRules r above → TellsRules r (above ++ skipped ∷ [])
 skipped_rules r above t = record {
   stated = rules_of-skipped above ∙ t.stated;
   above_open = λ q e. let h = t.above_open q e in record {
@@ -324,13 +324,13 @@ skipped_rules r above t = record {
 }
 
 -- a skipped line
-pub took_skipped : (r : Reading) (above : List Statement) → TellsAbove r above → TellsAbove r (above ++ skipped ∷ [])
+pub took_skipped : (r : MapReading) (above : List Statement) → TellsAbove r above → TellsAbove r (above ++ skipped ∷ [])
 took_skipped r above t = record { answers = skipped_answers r above t.answers; rules = skipped_rules r above t.rules }
 
 -- ---- what is wrong
 
 -- what is kept for the open page or origin is fresh
-pub fresh_of : (r : Reading) (above : List Statement) → TellsAbove r above → IsFresh r
+pub fresh_of : (r : MapReading) (above : List Statement) → TellsAbove r above → IsFresh r
 fresh_of r above t = record { page = t.answers.fresh; origin = t.rules.fresh }
 
 -- an address of the line is refused, or memory ran out
@@ -362,15 +362,15 @@ claimed_origin above s origin r f place all shape (inr h) = rw h.0 (inr (place, 
 -- ---- lines that state an answer
 
 -- nothing is open, so no page is
-no_page : (r : Reading) → r.open ≡ None → (p : OpenPage) → r.open ≢ Some (Page p)
+no_page : (r : MapReading) → r.open ≡ None → (p : OpenPage) → r.open ≢ Some (Page p)
 no_page r none p e = let k = sym none ∙ e in cc
 
 -- nor is an origin
-no_origin : (r : Reading) → r.open ≡ None → (p : OpenRobots) → r.open ≢ Some (Robots p)
+no_origin : (r : MapReading) → r.open ≡ None → (p : OpenRobots) → r.open ≢ Some (Robots p)
 no_origin r none p e = let k = sym none ∙ e in cc
 
 -- a moved, leaf or fault line is taken if its answer is kept
-pub takes_answer : {U : Type 0} (old new : Reading) (r : Result U InputLineFault) (s : Statement) (address : List ℕ) (x : Outcome)
+pub takes_answer : {U : Type 0} (old new : MapReading) (r : Result U InputLineFault) (s : Statement) (address : List ℕ) (x : Outcome)
     → is_answer s ≡ true → answers_of (s ∷ []) ≡ (address, x) ∷ [] → All IsNamed (texts_of s)
     → Adds old address x r new
     → Takes old s r new
@@ -387,7 +387,7 @@ takes_answer old new (Err f) s address x kind shape all h = λ above t.
     claimed above s address x f ((answers_alone s kind).in_place above) all shape (rw t.answers.stated (h (fresh_of old above t)))
 
 -- a moved line
-pub takes_moved : {U : Type 0} (old new : Reading) (r : Result U InputLineFault) (status : ℕ) (text target address to : List ℕ)
+pub takes_moved : {U : Type 0} (old new : MapReading) (r : Result U InputLineFault) (status : ℕ) (text target address to : List ℕ)
     → read_address text ≡ Ok address → read_address target ≡ Ok to
     → Adds old address (outcome.Moved status to) r new
     → Takes old (moved status text target) r new
@@ -400,7 +400,7 @@ takes_moved old new r status text target address to reads leads h =
     (All-cons IsNamed text (target ∷ []) a.0 (All-cons IsNamed target [] b.0 (All-nil IsNamed))) h
 
 -- a leaf line
-pub takes_leaf : {U : Type 0} (old new : Reading) (r : Result U InputLineFault) (status : ℕ) (text address : List ℕ)
+pub takes_leaf : {U : Type 0} (old new : MapReading) (r : Result U InputLineFault) (status : ℕ) (text address : List ℕ)
     → read_address text ≡ Ok address
     → Adds old address (outcome.Leaf status) r new
     → Takes old (leaf status text) r new
@@ -411,7 +411,7 @@ takes_leaf old new r status text address reads h =
     takes_answer old new r (leaf status text) address (outcome.Leaf status) refl shape (All-cons IsNamed text [] a.0 (All-nil IsNamed)) h
 
 -- a fault line
-pub takes_fault : {U : Type 0} (old new : Reading) (r : Result U InputLineFault) (kind : FaultKind) (text address : List ℕ)
+pub takes_fault : {U : Type 0} (old new : MapReading) (r : Result U InputLineFault) (kind : FaultKind) (text address : List ℕ)
     → read_address text ≡ Ok address
     → Adds old address (outcome.Fault kind) r new
     → Takes old (fault kind text) r new
@@ -424,7 +424,7 @@ takes_fault old new r kind text address reads h =
 -- ---- page and edge lines
 
 -- a page line that is taken is good, and what is kept represents it
-pub takes_page : (old shut new : Reading) (above : List Statement) (status : ℕ) (text : List ℕ) (p : OpenPage) → TellsAbove old above → Closes old shut
+pub takes_page : (old shut new : MapReading) (above : List Statement) (status : ℕ) (text : List ℕ) (p : OpenPage) → TellsAbove old above → Closes old shut
     → read_address text ≡ Ok p.address → lookup (bytes_eq p.address) (answers_in old) ≡ None → p.status ≡ status → p.edges.items ≡ []
     → new.open ≡ Some (Page p) → new.answers.entries ≡ shut.answers.entries → new.rules.entries ≡ shut.rules.entries
     → IsGood above (page status text) × TellsAbove new (above ++ page status text ∷ [])
@@ -447,7 +447,7 @@ takes_page old shut new above status text p t closes reads none same bare is ans
     )
 
 -- a page line whose address has an answer
-pub page_claimed : (r : Reading) (above : List Statement) (status : ℕ) (text address : List ℕ) (f : InputLineFault) → TellsAbove r above → read_address text ≡ Ok address
+pub page_claimed : (r : MapReading) (above : List Statement) (status : ℕ) (text address : List ℕ) (f : InputLineFault) → TellsAbove r above → read_address text ≡ Ok address
     → IsTaken (answers_in r) address f → IsWrong above (page status text) f
 page_claimed r above status text address f t reads h =
     let a = names text address reads in
@@ -455,7 +455,7 @@ page_claimed r above status text address f t reads h =
     claimed above (page status text) address (outcome.Page status []) f tt (All-cons IsNamed text [] a.0 (All-nil IsNamed)) shape (rw t.answers.stated h)
 
 -- an edge line below its page is good, and what is kept represents it
-pub takes_edge : (old new : Reading) (above : List Statement) (kind : EdgeKind) (text target : List ℕ) (p q : OpenPage)
+pub takes_edge : (old new : MapReading) (above : List Statement) (kind : EdgeKind) (text target : List ℕ) (p q : OpenPage)
     → TellsAbove old above → read_address text ≡ Ok target → old.open ≡ Some (Page p) → new.open ≡ Some (Page q) → q.address ≡ p.address → q.status ≡ p.status
     → q.edges.items ≡ p.edges.items ++ record { target = target; kind = kind } ∷ [] → new.answers.entries ≡ old.answers.entries → new.rules.entries ≡ old.rules.entries
     → IsGood above (edge kind text) × TellsAbove new (above ++ edge kind text ∷ [])
@@ -497,7 +497,7 @@ good_origin above s text origin r a named none = record {
 }
 
 -- a robots line whose origin has rules
-pub origin_claimed : (old : Reading) (above : List Statement) (s : Statement) (text origin : List ℕ) (r : RuleSetValue) (f : InputLineFault) → TellsAbove old above → StatesRules s text origin r
+pub origin_claimed : (old : MapReading) (above : List Statement) (s : Statement) (text origin : List ℕ) (r : RuleSetValue) (f : InputLineFault) → TellsAbove old above → StatesRules s text origin r
     → IsNamed text → IsTaken (all_rules old) origin f → IsWrong above s f
 origin_claimed old above s text origin r f t a named h =
     claimed_origin above s origin r f (a.place above) (rw a.texts (All-cons IsNamed text [] named (All-nil IsNamed))) a.rules (rw t.rules.stated h)
@@ -527,7 +527,7 @@ states_closed text origin root is = record {
 }
 
 -- a robots line with rules below is good, and what is kept represents it
-pub takes_robots : (old shut new : Reading) (above : List Statement) (text : List ℕ) (r : OpenRobots) → TellsAbove old above → Closes old shut → IsNamed text
+pub takes_robots : (old shut new : MapReading) (above : List Statement) (text : List ℕ) (r : OpenRobots) → TellsAbove old above → Closes old shut → IsNamed text
     → path_query_of (named text) ≡ codes "/" → origin_of (named text) ≡ r.origin → lookup (bytes_eq r.origin) (all_rules old) ≡ None → string_bytes r.file ≡ file_head
     → new.open ≡ Some (Robots r) → new.answers.entries ≡ shut.answers.entries → new.rules.entries ≡ shut.rules.entries
     → IsGood above (robots text) × TellsAbove new (above ++ robots text ∷ [])
@@ -543,7 +543,7 @@ takes_robots old shut new above text r t closes named root names none bare is an
     )
 
 -- a robots line without rules below is good, and what is kept represents it
-pub takes_closed : (old new : Reading) (above : List Statement) (text origin : List ℕ) → TellsAbove old above → IsNamed text
+pub takes_closed : (old new : MapReading) (above : List Statement) (text origin : List ℕ) → TellsAbove old above → IsNamed text
     → path_query_of (named text) ≡ codes "/" → origin_of (named text) ≡ origin → lookup (bytes_eq origin) (all_rules old) ≡ None
     → new.open ≡ None → new.answers.entries ≡ answers_in old → new.rules.entries ≡ all_rules old ++ (origin, record { closed = true; rules = [] }) ∷ []
     → IsGood above (closed text) × TellsAbove new (above ++ closed text ∷ [])
@@ -559,11 +559,11 @@ takes_closed old new above text origin t named root names none is answers rules 
     )
 
 -- an origin that is open is above
-pub below_origin : (old : Reading) (above : List Statement) (r : OpenRobots) → TellsAbove old above → old.open ≡ Some (Robots r) → HasRobots above
+pub below_origin : (old : MapReading) (above : List Statement) (r : OpenRobots) → TellsAbove old above → old.open ≡ Some (Robots r) → HasRobots above
 below_origin old above r t was = let h = t.rules.above_open r was in (h.higher, robots h.text, h.between, h.lines, (h.text, refl), h.ruling)
 
 -- a rule line below its origin is good, and what is kept represents it
-pub takes_rule : (old new : Reading) (above : List Statement) (kind : RuleKind) (rest : List ℕ) (r q : OpenRobots)
+pub takes_rule : (old new : MapReading) (above : List Statement) (kind : RuleKind) (rest : List ℕ) (r q : OpenRobots)
     → TellsAbove old above → old.open ≡ Some (Robots r) → new.open ≡ Some (Robots q) → q.origin ≡ r.origin
     → string_bytes q.file ≡ string_bytes r.file ++ file_line kind rest → new.answers.entries ≡ old.answers.entries → new.rules.entries ≡ old.rules.entries
     → IsGood above (rule kind rest) × TellsAbove new (above ++ rule kind rest ∷ [])
@@ -594,7 +594,7 @@ none_above IsHead passes ([], head, between, e, is, all) = cc
 none_above IsHead passes (s ∷ above, head, between, e, is, all) = cc
 
 -- nothing is kept, and it represents no line
-pub tells_nothing : (r : Reading) → r.open ≡ None → r.answers.entries ≡ [] → r.rules.entries ≡ [] → TellsAbove r []
+pub tells_nothing : (r : MapReading) → r.open ≡ None → r.answers.entries ≡ [] → r.rules.entries ≡ [] → TellsAbove r []
 tells_nothing r none bare empty = record {
   answers = record {
     stated = sym (ap (λ l. l ++ opened_answer r.open) bare ∙ ap opened_answer none);

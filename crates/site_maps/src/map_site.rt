@@ -1,6 +1,6 @@
 //! Sites that are read from a map.
 use crate::known::KnownAddresses;
-use crate::reading::Reading;
+use crate::reading::MapReading;
 use crate::steady_map::SteadyMap;
 use address::{Address, Origin};
 use fetcher::{Answer, Ask, Body, Fetcher, NOT_FOUND, Outcome};
@@ -63,7 +63,7 @@ impl MapSite {
         ensures map { IfOk result (λ m. (said : List Statement) × IsMap (text_lines_of text.now) said × (m ≡ record { answers = answers_of said; rules = rules_of said; asks = [] })) }
         ensures fault { IfErr result (λ f. IsFault text.now f) }
     {
-        let mut reading = Reading::new(alloc);
+        let mut reading = MapReading::new(alloc);
         let mut known = KnownAddresses::new(alloc);
         let mut number = 0;
         for line in text.split(|byte| *byte == b'\n') {
@@ -80,14 +80,14 @@ impl MapSite {
     }
 
     // The site of the answers and the rule sets so far.
-    fn of(mut reading: Reading) -> Result<MapSite, AllocError>
+    fn of(mut reading: MapReading) -> Result<MapSite, AllocError>
         ensures { IsFresh reading → IfOk result (λ m. m ≡ record { answers = answers_in reading; rules = all_rules reading; asks = [] }) }
     {
         if reading.close().is_err() {
             drop(reading);
             return Err(AllocError);
         }
-        let Reading {
+        let MapReading {
             alloc,
             answers,
             rules,

@@ -36,19 +36,19 @@ pub(crate) enum Open {
 
 /// What the lines read so far state.
 #[derive(Drop)]
-pub(crate) struct Reading {
+pub(crate) struct MapReading {
     pub(crate) alloc: Global,
     pub(crate) answers: IndexMap<Address, Outcome>,
     pub(crate) rules: IndexMap<Origin, KeptRules>,
     pub(crate) open: Option<Open>,
 }
 
-impl Reading {
+impl MapReading {
     // Before the first line.
     pub(crate) fn new(alloc: Global) -> Self
         ensures { TellsAbove result [] }
     {
-        Reading {
+        MapReading {
             alloc,
             answers: IndexMap::new(alloc),
             rules: IndexMap::new(alloc),

@@ -14,7 +14,7 @@ use Rattle.fetcher.specs.declared.fault_kind.FaultKind.{FaultKind}
 use Rattle.site_inputs.specs.declared.input_fault.InputLineFault.{InputLineFault}
 use Rattle.site_inputs.specs.declared.input_fault.InputLineFault.TheVariants.{Line, Address, Memory}
 use Rattle.site_inputs.specs.Names.{recorded as named, IsRecorded as IsNamed}
-use Rattle.site_records.specs.declared.reading.Reading.{Reading}
+use Rattle.site_records.specs.declared.reading.RecordReading.{RecordReading}
 use Rattle.site_records.specs.EntryLines.{Statement, page, fault, file, free, closed, chain, IsForm, HasForm, text_of, HopStatement, hop, hopfault}
 use Rattle.site_records.specs.Entries.{Entry, answered, ruled, chained, lines_of, no_response, HasBytes, IsLine, IsReadAs, States, IsAtRoot, Begins, IsRepeated, HasItsBytes, AreHopsOf, no_hops, more_hops, IsHop, TellsHop, IsBadRow, IsBadBehind, LeadsOn}
 use Rattle.site_records.specs.inner.Readings.{AddsLines, IsWrong, IsWrongAt, IsWrongChain, IsBadHop, IsStated, IsRuled, Keeps, TakesEntry, IsBad, Reads, lines_to, IsCounted}
@@ -46,7 +46,7 @@ unrooted rules text f (inr (inl h)) = rw h.0 h.1
 unrooted rules text f (inr (inr h)) = rw h.0 (h.1, inl h.2)
 
 -- a line whose address isn't read, or has an answer
-pub refused_answer : (old : Reading) (s : Statement) (behind : List ℕ) (f : InputLineFault)
+pub refused_answer : (old : RecordReading) (s : Statement) (behind : List ℕ) (f : InputLineFault)
     → (IsSome (lookup (bytes_eq (named (text_of s))) old.answers.entries) → IsRepeated old.answers.entries old.rules.entries s)
     → IsStated old.answers.entries (text_of s) f → IsWrong old s behind f
 refused_answer old s behind Line to h = (h.0, inr (inl (to h.1)))
@@ -54,7 +54,7 @@ refused_answer old s behind Address to h = h
 refused_answer old s behind Memory to h = tt
 
 -- a line whose origin isn't read, or has rules
-pub refused_rules : (old : Reading) (s : Statement) (behind : List ℕ) (f : InputLineFault) → (IsAtRoot s → path_query_of (named (text_of s)) ≡ codes "/")
+pub refused_rules : (old : RecordReading) (s : Statement) (behind : List ℕ) (f : InputLineFault) → (IsAtRoot s → path_query_of (named (text_of s)) ≡ codes "/")
     → (IsSome (lookup (bytes_eq (origin_of (named (text_of s)))) old.rules.entries) → IsRepeated old.answers.entries old.rules.entries s)
     → IsRuled old.rules.entries (text_of s) f → IsWrong old s behind f
 refused_rules old s behind Line root to (is, inl elsewhere) = (is, inl (λ k. elsewhere (root k)))
@@ -63,7 +63,7 @@ refused_rules old s behind Address root to h = h
 refused_rules old s behind Memory root to h = tt
 
 -- the entry that a line states is kept
-pub takes : (old new : Reading) (s : Statement) (behind : List ℕ) (taken : Taken) (e : Entry) → IsNamed (text_of s) → IsAtRoot s → States old.links s behind e taken.after.now → Keeps old e new
+pub takes : (old new : RecordReading) (s : Statement) (behind : List ℕ) (taken : Taken) (e : Entry) → IsNamed (text_of s) → IsAtRoot s → States old.links s behind e taken.after.now → Keeps old e new
     → taken.lines ≡ lines_of e → AddsLines old s behind taken new
 takes old new s behind taken e named_is root states keeps lines = record {
   adds = record { entry = e; is_named = named_is; at_root = root; states = states; keeps = keeps };
@@ -98,7 +98,7 @@ no_form version text line behind is none s after b =
     none s (rw e at b.form)
 
 -- a line that is taken, or refused, is an entry that is
-pub reads_entry : (old new : Reading) (r : Result Taken EntryFault) (text line behind : List ℕ) (s : Statement) → IsLine text line behind → HasForm old.version line s
+pub reads_entry : (old new : RecordReading) (r : Result Taken EntryFault) (text line behind : List ℕ) (s : Statement) → IsLine text line behind → HasForm old.version line s
     → TakesEntry old s behind r new → MatchResult r (λ taken. Reads old text taken.lines taken.after.now new) (λ f. IsBad old text f)
 reads_entry old new (Ok taken) text line behind s is form t = record {
   entry = t.adds.entry;
@@ -159,7 +159,7 @@ short_row (free text) behind k IsBad h = absurd h
 short_row (closed text) behind k IsBad h = absurd h
 
 -- what follows an entry is shorter than the text, by as many lines as it has; and no more lines are read in front of a fault
-pub shorter : (old new : Reading) (r : Result Taken EntryFault) (text line behind : List ℕ) (s : Statement) → IsLine text line behind
+pub shorter : (old new : RecordReading) (r : Result Taken EntryFault) (text line behind : List ℕ) (s : Statement) → IsLine text line behind
     → TakesEntry old s behind r new → MatchResult r (λ taken. length taken.after.now + taken.lines ≤ length text) (λ f. lines_to f ≤ length text)
 shorter old new (Ok taken) text line behind s is t =
     let one = shorter_line text line behind is in
@@ -181,7 +181,7 @@ chain_states links text n behind after of c are long admitted same is =
     (c.hops, are, long, subst (λ o. IsAdmitted o c.hops) (sym is) admitted, ap (λ o. chained o c.hops) (same ∙ sym is))
 
 -- a chain that is refused after its line
-pub wrong_chain : (old : Reading) (text : List ℕ) (n : ℕ) (behind : List ℕ) (of : List ℕ) (f : EntryFault) → IsNamed text → path_query_of (named text) ≡ codes "/"
+pub wrong_chain : (old : RecordReading) (text : List ℕ) (n : ℕ) (behind : List ℕ) (of : List ℕ) (f : EntryFault) → IsNamed text → path_query_of (named text) ≡ codes "/"
     → origin_of (named text) ≡ of → lookup (bytes_eq of) old.rules.entries ≡ None → IsWrongChain of n behind f → IsWrongAt old (chain text n) behind f
 wrong_chain old text n behind of (Own Line) named_is root is none h = (named_is, inr (inr (inr (subst (λ o. LeadsOn o n behind) (sym is) h))))
 wrong_chain old text n behind of (Own Address) named_is root is none h = absurd h
@@ -192,7 +192,7 @@ wrong_chain old text n behind of (Hop k f) named_is root is none h =
 -- ---- lines that are refused after their address
 
 -- a line whose bytes aren't there
-pub without_bytes : (old : Reading) (s : Statement) (behind : List ℕ) → IsNamed (text_of s) → ¬ HasItsBytes s behind → IsWrong old s behind Line
+pub without_bytes : (old : RecordReading) (s : Statement) (behind : List ℕ) → IsNamed (text_of s) → ¬ HasItsBytes s behind → IsWrong old s behind Line
 without_bytes old s behind named_is none = (named_is, inr (inr (inl none)))
 
 -- the rules of an origin are those of its robots file
@@ -201,12 +201,12 @@ pub file_states : (links : LinkRules) (text : List ℕ) (n : ℕ) (behind bytes 
 file_states links text n behind bytes after of own r has read same is = (bytes, has, rw (is, same, read) refl)
 
 -- a line by which everything is allowed, or nothing, at an origin that isn't read or has rules
-pub refused_bare : (old : Reading) (allowed : Bool) (text behind : List ℕ) (f : InputLineFault) → IsRuled old.rules.entries text f → IsWrong old (cond allowed (free text) (closed text)) behind f
+pub refused_bare : (old : RecordReading) (allowed : Bool) (text behind : List ℕ) (f : InputLineFault) → IsRuled old.rules.entries text f → IsWrong old (cond allowed (free text) (closed text)) behind f
 refused_bare old true text behind f h = refused_rules old (free text) behind f (λ k. k) (λ k. k) h
 refused_bare old false text behind f h = refused_rules old (closed text) behind f (λ k. k) (λ k. k) h
 
 -- or those by which everything is allowed, or nothing
-pub bare_states : (old new : Reading) (allowed : Bool) (text : List ℕ) (behind : List ℕ) (taken : Taken) (of own : List ℕ) (r : RuleSetValue) → IsNamed text → path_query_of (named text) ≡ codes "/"
+pub bare_states : (old new : RecordReading) (allowed : Bool) (text : List ℕ) (behind : List ℕ) (taken : Taken) (of own : List ℕ) (r : RuleSetValue) → IsNamed text → path_query_of (named text) ≡ codes "/"
     → r ≡ cond allowed all_allowed none_allowed → own ≡ of → origin_of (named text) ≡ of → taken.after.now ≡ behind → taken.lines ≡ 1 → Keeps old (ruled own r) new
     → AddsLines old (cond allowed (free text) (closed text)) behind taken new
 bare_states old new true text behind taken of own r named_is root rules same is after lines keeps =

@@ -7,7 +7,7 @@ use Rattle.site_inputs.specs.declared.input_fault.InputLineFault.TheVariants.{Li
 use Rattle.site_records.specs.declared.entry_fault.EntryFault.{EntryFault}
 use Rattle.site_records.specs.declared.entry_fault.EntryFault.TheVariants.{Own, Hop}
 use Rattle.site_records.specs.declared.version.Version.{Version}
-use Rattle.site_records.specs.declared.reading.Reading.{Reading}
+use Rattle.site_records.specs.declared.reading.RecordReading.{RecordReading}
 use Rattle.site_records.specs.Entries.{IsBadLine, IsBadAddress, IsFormed}
 use Rattle.site_records.specs.inner.Readings.{IsBad, fault_at}
 use Rattle.site_records.specs.Fronts.{HasNoLine, IsTornEntry, IsBadWhole, IsFrontFault, HasFront}
@@ -22,7 +22,7 @@ some_left : (version : Version) (rest : List ℕ) → ¬ IsTornEntry version res
 some_left version rest whole e = whole (inl (nothing_is_torn rest e))
 
 -- a bad entry within which the bytes don't end is the first
-pub first_bad_whole : (links : LinkRules) (bytes : List ℕ) (old : Reading) (number : ℕ) (rest : List ℕ) (f : EntryFault) → IsReadTo links bytes old number rest
+pub first_bad_whole : (links : LinkRules) (bytes : List ℕ) (old : RecordReading) (number : ℕ) (rest : List ℕ) (f : EntryFault) → IsReadTo links bytes old number rest
     → ¬ IsTornEntry old.version rest → IsBad old rest f → IsFrontFault links bytes (fault_at f (number + 1))
 first_bad_whole links bytes old number rest (Own Line) s whole bad =
     inr (first_bad_at links bytes old number rest (IsBadWhole IsBadLine) None (number + 1) s (some_left old.version rest whole) (omega arith) (bad, whole))
@@ -38,7 +38,7 @@ first_bad_whole links bytes old number rest (Hop k Memory) s whole bad =
     inl (number + 1 + k + 1, first_bad_at links bytes old number rest (λ version _ _ _ rest. IsFormed version rest) (Some k) (number + 1 + k + 1) s (some_left old.version rest whole) (omega arith) bad)
 
 -- what is read before an entry within which the bytes end is a front
-pub front_read : (links : LinkRules) (bytes : List ℕ) (reading : Reading) (number : ℕ) (rest : List ℕ) → (s : IsReadTo links bytes reading number rest) → IsTornEntry reading.version rest → HasFront links bytes s.above rest
+pub front_read : (links : LinkRules) (bytes : List ℕ) (reading : RecordReading) (number : ℕ) (rest : List ℕ) → (s : IsReadTo links bytes reading number rest) → IsTornEntry reading.version rest → HasFront links bytes s.above rest
 front_read links bytes reading number rest s torn = record { version = reading.version; text = s.text; begins = s.begins; front = s.front; torn = torn }
 
 -- a text that begins with a line is this and a rest

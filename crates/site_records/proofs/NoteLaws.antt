@@ -12,7 +12,7 @@ use Rattle.answer_notes.specs.declared.told.Told.{Told}
 use Rattle.answer_notes.specs.declared.told.Told.TheVariants as told
 use Rattle.answer_notes.specs.declared.noted.Noted.{Noted}
 use Rattle.answer_notes.specs.declared.noted.Noted.TheVariants.{Page, Chain}
-use Rattle.site_records.specs.declared.reading.Reading.{Reading}
+use Rattle.site_records.specs.declared.reading.RecordReading.{RecordReading}
 use Rattle.site_records.specs.Entries.{ruled, chained, IsReadAs, IsToldIn}
 use Rattle.site_records.specs.Records.{answers_of}
 use Rattle.site_records.specs.WrittenEntries.{note_entry}
@@ -36,22 +36,22 @@ note_added true links old new note is = (note, is, record { answers = refl; rule
 note_added false links old new note is = is
 
 -- what was received for an address is kept after the others, and then its note
-pub keeps_page : (old mid new : Reading) (at : AddressText) (t : Told) → lookup (bytes_eq at) old.answers.entries ≡ None → mid ≡ record old { answers = mid.answers }
+pub keeps_page : (old mid new : RecordReading) (at : AddressText) (t : Told) → lookup (bytes_eq at) old.answers.entries ≡ None → mid ≡ record old { answers = mid.answers }
     → mid.answers.entries ≡ old.answers.entries ++ answers_of (note_entry old.links (Page at t) ∷ []) → new ≡ record mid { notes = new.notes }
     → new.notes.items ≡ cond mid.keeps_notes (mid.notes.items ++ Page at t ∷ []) mid.notes.items → KeepsNote old (Page at t) new
 keeps_page old mid new at t vacant first answers second items = record {
-  answers = ap (λ (r : Reading). r.answers.entries) second ∙ answers;
-  rules = ap (λ (r : Reading). r.rules.entries) second ∙ ap (λ (r : Reading). r.rules.entries) first ∙ sym (append-nil old.rules.entries);
-  links = ap (λ (r : Reading). r.links) second ∙ ap (λ (r : Reading). r.links) first;
-  version = ap (λ (r : Reading). r.version) second ∙ ap (λ (r : Reading). r.version) first;
-  keeps_notes = ap (λ (r : Reading). r.keeps_notes) second ∙ ap (λ (r : Reading). r.keeps_notes) first;
+  answers = ap (λ (r : RecordReading). r.answers.entries) second ∙ answers;
+  rules = ap (λ (r : RecordReading). r.rules.entries) second ∙ ap (λ (r : RecordReading). r.rules.entries) first ∙ sym (append-nil old.rules.entries);
+  links = ap (λ (r : RecordReading). r.links) second ∙ ap (λ (r : RecordReading). r.links) first;
+  version = ap (λ (r : RecordReading). r.version) second ∙ ap (λ (r : RecordReading). r.version) first;
+  keeps_notes = ap (λ (r : RecordReading). r.keeps_notes) second ∙ ap (λ (r : RecordReading). r.keeps_notes) first;
   noted = note_added old.keeps_notes old.links old.notes.items new.notes.items (Page at t)
-      (items ∙ ap (λ (r : Reading). cond r.keeps_notes (r.notes.items ++ Page at t ∷ []) r.notes.items) first);
+      (items ∙ ap (λ (r : RecordReading). cond r.keeps_notes (r.notes.items ++ Page at t ∷ []) r.notes.items) first);
   is_new = vacant;
 }
 
 -- the rules of a chain are kept after the others, and its note
-pub keeps_chain : (old new : Reading) (c : ChainValue) → lookup (bytes_eq c.of) old.rules.entries ≡ None → new.rules.entries ≡ old.rules.entries ++ (c.of, rules_of_hops c.hops) ∷ []
+pub keeps_chain : (old new : RecordReading) (c : ChainValue) → lookup (bytes_eq c.of) old.rules.entries ≡ None → new.rules.entries ≡ old.rules.entries ++ (c.of, rules_of_hops c.hops) ∷ []
     → new.answers.entries ≡ old.answers.entries → new.links ≡ old.links → new.version ≡ old.version → new.keeps_notes ≡ old.keeps_notes
     → new.notes.items ≡ cond old.keeps_notes (old.notes.items ++ Chain c ∷ []) old.notes.items → KeepsNote old (Chain c) new
 keeps_chain old new c vacant rules answers links version keeps items = record {
@@ -65,7 +65,7 @@ keeps_chain old new c vacant rules answers links version keeps items = record {
 }
 
 -- a chain is kept as its rules are
-pub keeps_rules : (old new : Reading) (c : ChainValue) → KeepsNote old (Chain c) new → Keeps old (ruled c.of (rules_of_hops c.hops)) new
+pub keeps_rules : (old new : RecordReading) (c : ChainValue) → KeepsNote old (Chain c) new → Keeps old (ruled c.of (rules_of_hops c.hops)) new
 keeps_rules old new c keeps = record {
   answers = keeps.answers;
   rules = keeps.rules;

@@ -15,7 +15,7 @@ use Rattle.site_records.specs.declared.entry_fault.EntryFault.{EntryFault}
 use Rattle.site_records.specs.declared.entry_fault.EntryFault.TheVariants.{Own, Hop}
 use Rattle.site_records.specs.declared.version.Version.{Version}
 use Rattle.site_records.specs.declared.version.Version.TheVariants.{First, Second}
-use Rattle.site_records.specs.declared.reading.Reading.{Reading}
+use Rattle.site_records.specs.declared.reading.RecordReading.{RecordReading}
 use Rattle.site_records.specs.Entries.{Entry, answered, ruled, chained, lines_of, IsEntry, IsNew, IsBadLine, IsBadAddress, IsFormed}
 use Rattle.site_records.specs.Records.{answers_of, rules_of, version_line, IsFront, none, next, IsRecord, line_count, lines_ahead, FirstBad, HasVersion, IsFault}
 use Rattle.answer_notes.specs.declared.noted.Noted.{Noted}
@@ -26,7 +26,7 @@ use Rattle.site_records.specs.inner.Readings.{Reads, IsBad, fault_at}
 use Rattle.html_links.specs.declared.rules.LinkRules.{LinkRules}
 
 -- the entries so far are kept, and this is the rest
-pub record IsReadTo (links : LinkRules) (bytes : List ℕ) (reading : Reading) (number : ℕ) (rest : List ℕ) : Type 0 where
+pub record IsReadTo (links : LinkRules) (bytes : List ℕ) (reading : RecordReading) (number : ℕ) (rest : List ℕ) : Type 0 where
   pub text : List ℕ
   pub above : List Entry
   pub begins : bytes ≡ version_line reading.version ++ text
@@ -75,7 +75,7 @@ notes_grow true links old new above e was (note, pushed, says) =
     }
 
 -- nothing is read yet after the first line
-pub starts : (links : LinkRules) (bytes : List ℕ) (reading : Reading) (rest : List ℕ) → bytes ≡ version_line reading.version ++ rest
+pub starts : (links : LinkRules) (bytes : List ℕ) (reading : RecordReading) (rest : List ℕ) → bytes ≡ version_line reading.version ++ rest
     → reading.answers.entries ≡ [] → reading.rules.entries ≡ [] → reading.links ≡ links → reading.notes.items ≡ [] → IsReadTo links bytes reading 1 rest
 starts links bytes reading rest is answers rules same none_noted =
     let some = long_line reading.version in
@@ -118,7 +118,7 @@ has_version version bytes rest front is =
     sym (take-append-drop (length (version_line version)) bytes) ∙ ap (λ l. l ++ drop (length (version_line version)) bytes) begins ∙ ap (λ l. version_line version ++ l) (sym is)
 
 -- one more entry is read
-pub goes_on : (links : LinkRules) (bytes : List ℕ) (old new : Reading) (number lines : ℕ) (rest after : List ℕ) → IsReadTo links bytes old number rest
+pub goes_on : (links : LinkRules) (bytes : List ℕ) (old new : RecordReading) (number lines : ℕ) (rest after : List ℕ) → IsReadTo links bytes old number rest
     → Reads old rest lines after new → length after + lines ≤ length rest → IsReadTo links bytes new (number + lines) after
 goes_on links bytes old new number lines rest after so_far r less =
     let e : IsEntry old.version links rest r.entry after = rw so_far.robots_is at r.is in
@@ -139,7 +139,7 @@ goes_on links bytes old new number lines rest after so_far r less =
     }
 
 -- a bad entry is the first
-pub first_bad_at : (links : LinkRules) (bytes : List ℕ) (old : Reading) (number : ℕ) (rest : List ℕ) (IsBadSo : Version → List (AddressText × Answer BodyValue) → List (OriginText × RuleSetValue) → Option ℕ → List ℕ → Type 0)
+pub first_bad_at : (links : LinkRules) (bytes : List ℕ) (old : RecordReading) (number : ℕ) (rest : List ℕ) (IsBadSo : Version → List (AddressText × Answer BodyValue) → List (OriginText × RuleSetValue) → Option ℕ → List ℕ → Type 0)
     (place : Option ℕ) (line : ℕ) → IsReadTo links bytes old number rest → rest ≢ [] → line ≡ number + 1 + lines_ahead place
     → IsBadSo old.version old.answers.entries old.rules.entries place rest → FirstBad links bytes line IsBadSo
 first_bad_at links bytes old number rest IsBadSo place line s more is bad = record {
@@ -155,7 +155,7 @@ first_bad_at links bytes old number rest IsBadSo place line s more is bad = reco
   bad = subst (λ answers. IsBadSo old.version answers (rules_of s.above) place rest) s.answers (subst (λ rules. IsBadSo old.version old.answers.entries rules place rest) s.rules bad);
 }
 
-pub first_bad : (links : LinkRules) (bytes : List ℕ) (old : Reading) (number : ℕ) (rest : List ℕ) (f : EntryFault) → IsReadTo links bytes old number rest
+pub first_bad : (links : LinkRules) (bytes : List ℕ) (old : RecordReading) (number : ℕ) (rest : List ℕ) (f : EntryFault) → IsReadTo links bytes old number rest
     → rest ≢ [] → IsBad old rest f → IsFault links bytes (fault_at f (number + 1))
 first_bad links bytes old number rest (Own Line) s more bad = inr (first_bad_at links bytes old number rest IsBadLine None (number + 1) s more (omega arith) bad)
 first_bad links bytes old number rest (Own Address) s more bad = first_bad_at links bytes old number rest IsBadAddress None (number + 1) s more (omega arith) bad
@@ -167,12 +167,12 @@ first_bad links bytes old number rest (Hop k Memory) s more bad =
     inl (number + 1 + k + 1, first_bad_at links bytes old number rest (λ version _ _ _ rest. IsFormed version rest) (Some k) (number + 1 + k + 1) s more (omega arith) bad)
 
 -- the lines in front of a fault are fewer than the bytes
-pub line_within : (links : LinkRules) (bytes : List ℕ) (old : Reading) (number : ℕ) (rest : List ℕ) (lines : ℕ) → IsReadTo links bytes old number rest
+pub line_within : (links : LinkRules) (bytes : List ℕ) (old : RecordReading) (number : ℕ) (rest : List ℕ) (lines : ℕ) → IsReadTo links bytes old number rest
     → lines ≤ length rest → number + 1 + lines ≤ length bytes
 line_within links bytes old number rest lines s le = let was = s.within in omega (arith, was, le)
 
 -- if nothing is left, all is read
-pub all_read : (links : LinkRules) (bytes : List ℕ) (old : Reading) (number : ℕ) (rest : List ℕ) → (s : IsReadTo links bytes old number rest)
+pub all_read : (links : LinkRules) (bytes : List ℕ) (old : RecordReading) (number : ℕ) (rest : List ℕ) → (s : IsReadTo links bytes old number rest)
     → rest ≡ [] → IsRecord links bytes s.above
 all_read links bytes old number rest s empty = record { version = old.version; text = s.text; begins = s.begins; all = rw empty at s.front }
 

@@ -3,7 +3,7 @@ ghost use Rattle.std.specs.Prelude.{◌≡◌, IfErr, IfOk};
 ghost use Rattle.site_records.specs.Fronts.{IsFrontRead, IsFrontFault};
 ghost use Rattle.site_records.specs.Records.{HasVersion};
 
-use crate::reading::Reading;
+use crate::reading::RecordReading;
 use crate::recorded_site::RecordedSite;
 use crate::torn::is_torn;
 use crate::version::{SECOND_VERSION_LINE, Version, version_of};
@@ -31,7 +31,7 @@ pub fn read_front(alloc: Global, bytes: &[u8], links: LinkRules) -> Result<Recor
     let Some((version, mut rest)) = version_of(bytes) else {
         return torn_first(alloc, bytes, links);
     };
-    let mut reading = Reading::new(alloc, links, version, false);
+    let mut reading = RecordReading::new(alloc, links, version, false);
     let mut number = 1;
     'entries: while !is_torn(reading.version, rest) {
         match reading.read_entry(rest) {
@@ -59,7 +59,7 @@ fn torn_first(alloc: Global, bytes: &[u8], links: LinkRules) -> Result<RecordFro
     let Some(_) = SECOND_VERSION_LINE.strip_prefix(bytes) else {
         return Err(InputFault::Line(1));
     };
-    let nothing = Reading::new(alloc, links, Version::Second, false);
+    let nothing = RecordReading::new(alloc, links, Version::Second, false);
     let site = RecordedSite::of(nothing)?;
     Ok(RecordFront { site, len: 0 })
 }

@@ -26,7 +26,7 @@ use site_inputs::{InputLineFault, KeptRules, read_recorded, read_recorded_origin
 use std::alloc::{AllocError, Global};
 
 /// What the entries read so far state.
-pub(crate) struct Reading {
+pub(crate) struct RecordReading {
     pub(crate) alloc: Global,
     pub(crate) links: LinkRules,
     pub(crate) version: Version,
@@ -37,9 +37,9 @@ pub(crate) struct Reading {
 }
 
 // Written by hand: a user that drops one proves a call, and nothing about its fields.
-impl Drop for Reading {
+impl Drop for RecordReading {
     fn drop(self) {
-        let Reading {
+        let RecordReading {
             alloc: _alloc,
             links: _links,
             version: _version,
@@ -51,7 +51,7 @@ impl Drop for Reading {
     }
 }
 
-impl Reading {
+impl RecordReading {
     // Before the first entry.
     pub(crate) fn new(alloc: Global, links: LinkRules, version: Version, keeps_notes: bool) -> Self
         ensures links { result.links ≡ links }
@@ -61,7 +61,7 @@ impl Reading {
         ensures answers { result.answers.entries ≡ [] }
         ensures rules { result.rules.entries ≡ [] }
     {
-        Reading {
+        RecordReading {
             alloc,
             links,
             version,
@@ -266,7 +266,7 @@ impl Reading {
         ensures rules { result.rules.entries ≡ self.rules.entries }
         ensures notes { result.notes.items ≡ self.notes.items }
     {
-        let Reading {
+        let RecordReading {
             answers,
             rules,
             notes,

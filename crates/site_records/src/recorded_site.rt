@@ -1,5 +1,5 @@
 //! Sites that are read from a record of responses.
-use crate::reading::Reading;
+use crate::reading::RecordReading;
 use crate::replayed::copy_of;
 use crate::version::version_of;
 use address::{Address, Origin};
@@ -98,7 +98,7 @@ impl RecordedSite {
         let Some((version, mut rest)) = version_of(bytes) else {
             return Err(InputFault::Line(1));
         };
-        let mut reading = Reading::new(alloc, links, version, keeps_notes);
+        let mut reading = RecordReading::new(alloc, links, version, keeps_notes);
         let mut number = 1;
         'entries: while !rest.is_empty() {
             match reading.read_entry(rest) {
@@ -116,7 +116,7 @@ impl RecordedSite {
     }
 
     // The site of the answers and the rule sets that were read.
-    pub(crate) fn of(reading: Reading) -> Result<RecordedSite, AllocError>
+    pub(crate) fn of(reading: RecordReading) -> Result<RecordedSite, AllocError>
         ensures { IfOk result (λ m. m ≡ record { answers = reading.answers.entries; rules = reading.rules.entries; notes = reading.notes.items; asks = [] }) }
     {
         let alloc = reading.alloc;

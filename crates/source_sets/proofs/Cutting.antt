@@ -6,14 +6,14 @@ use Rattle.css_links.specs.Rewriting.{Change}
 use Rattle.source_sets.specs.Sets.{turn, Front, front, reference, turned, left_open, ended, references}
 use Rattle.source_sets.specs.Rewriting.{anew, Rewrite, out_of, rewrite_step, nothing_written, rewrite_fed, closed, rewritten, Piece, bytes_of, references_of, bytes_anew, IsAnew}
 use Rattle.source_sets.specs.Rewriting.Piece.{Bytes, Value}
-use Rattle.source_sets.specs.declared.place.Turn.{Turn}
-use Rattle.source_sets.specs.declared.place.Turn.TheVariants.{At, First, With, Comma, End}
-use Rattle.source_sets.specs.declared.place.Place.{Place}
-use Rattle.source_sets.specs.declared.place.Place.TheVariants.{Before, Url, Commas, Descriptors, Parentheses}
+use Rattle.source_sets.specs.declared.place.SetTurn.{SetTurn}
+use Rattle.source_sets.specs.declared.place.SetTurn.TheVariants.{At, First, With, Comma, End}
+use Rattle.source_sets.specs.declared.place.SetPlace.{SetPlace}
+use Rattle.source_sets.specs.declared.place.SetPlace.TheVariants.{Before, Url, Commas, Descriptors, Parentheses}
 use Rattle.source_sets.proofs.Keeping.{MoveAt, MoveEnd, Move, moves, Outside, at_outside, end_in, held, front_fed}
 
 -- out of URLs nothing is held back
-abbrev pub Nothing : Place → Front → Type 0
+abbrev pub Nothing : SetPlace → Front → Type 0
 Nothing Before f = held f ≡ []
 Nothing Url f = Unit
 Nothing Commas f = Unit
@@ -38,21 +38,21 @@ two_more of pieces raw bytes = flat_map-append of pieces (Value raw ∷ Bytes by
 held_more : (pieces : List Piece) (held set : List ℕ) (b : ℕ) → flat_map bytes_of pieces ++ held ≡ set → flat_map bytes_of pieces ++ (held ++ b ∷ []) ≡ set ++ b ∷ []
 held_more pieces held set b e = sym (append_assoc (flat_map bytes_of pieces) held (b ∷ [])) ∙ ap (λ xs. xs ++ b ∷ []) e
 
-outside_nothing : (p : Place) (f : Front) → Outside p → Nothing p f → held f ≡ []
+outside_nothing : (p : SetPlace) (f : Front) → Outside p → Nothing p f → held f ≡ []
 outside_nothing Before f o n = n
 outside_nothing Url f o n = absurd o
 outside_nothing Commas f o n = absurd o
 outside_nothing Descriptors f o n = n
 outside_nothing Parentheses f o n = n
 
-outside_empty : (p : Place) (found : List (List ℕ)) → Outside p → Nothing p (front p [] [] found)
+outside_empty : (p : SetPlace) (found : List (List ℕ)) → Outside p → Nothing p (front p [] [] found)
 outside_empty Before found o = refl
 outside_empty Url found o = absurd o
 outside_empty Commas found o = absurd o
 outside_empty Descriptors found o = refl
 outside_empty Parentheses found o = refl
 
-at_cuts : (change : Change) (f : Front) (out set : List ℕ) (b : ℕ) (q : Place) → MoveAt f.place q → Cuts change f out set → Cuts change (front q [] [] f.found) (out ++ b ∷ []) (set ++ b ∷ [])
+at_cuts : (change : Change) (f : Front) (out set : List ℕ) (b : ℕ) (q : SetPlace) → MoveAt f.place q → Cuts change f out set → Cuts change (front q [] [] f.found) (out ++ b ∷ []) (set ++ b ∷ [])
 at_cuts change f out set b q m k = record {
   pieces = k.pieces ++ Bytes (b ∷ []) ∷ [];
   text =
@@ -91,7 +91,7 @@ comma_cuts change f out set b k = record {
   nothing = tt;
 }
 
-end_cuts : (change : Change) (f : Front) (out set : List ℕ) (b : ℕ) (q : Place) → MoveEnd f.place q b → Cuts change f out set
+end_cuts : (change : Change) (f : Front) (out set : List ℕ) (b : ℕ) (q : SetPlace) → MoveEnd f.place q b → Cuts change f out set
     → Cuts change (front q [] [] (f.found ++ reference f.raw ∷ [])) (out ++ (anew change f.raw ++ (f.commas ++ b ∷ []))) (set ++ b ∷ [])
 end_cuts change f out set b q m k = record {
   pieces = k.pieces ++ (Value f.raw ∷ Bytes (f.commas ++ b ∷ []) ∷ []);
@@ -105,7 +105,7 @@ end_cuts change f out set b q m k = record {
 
 cuts_step : (change : Change) (w : Rewrite) (set : List ℕ) (b : ℕ) → Cuts change w.front w.out set → Cuts change (rewrite_step change w b).front (rewrite_step change w b).out (set ++ b ∷ [])
 cuts_step change w set b k = go (turn w.front.place b) (moves w.front.place b) where
-  go : (t : Turn) → Move w.front.place b t → Cuts change (turned w.front b t) (out_of change w b t) (set ++ b ∷ [])
+  go : (t : SetTurn) → Move w.front.place b t → Cuts change (turned w.front b t) (out_of change w b t) (set ++ b ∷ [])
   go (At q) m = at_cuts change w.front w.out set b q m k
   go First m = first_cuts change w.front w.out set b m k
   go With m = with_cuts change w.front w.out set b k
@@ -119,28 +119,28 @@ cuts_fed change w set (b ∷ bs) k =
     (append_assoc set (b ∷ []) bs) (cuts_fed change (rewrite_step change w b) (set ++ b ∷ []) bs (cuts_step change w set b k))
 
 -- the pieces that the end adds
-abbrev pub pieces_closed : Place → List ℕ → List ℕ → List Piece
+abbrev pub pieces_closed : SetPlace → List ℕ → List ℕ → List Piece
 pieces_closed Before raw commas = []
 pieces_closed Url raw commas = Value raw ∷ Bytes commas ∷ []
 pieces_closed Commas raw commas = Value raw ∷ Bytes commas ∷ []
 pieces_closed Descriptors raw commas = []
 pieces_closed Parentheses raw commas = []
 
-closed_bytes : (p : Place) (f : Front) → Nothing p f → flat_map bytes_of (pieces_closed p f.raw f.commas) ≡ held f
+closed_bytes : (p : SetPlace) (f : Front) → Nothing p f → flat_map bytes_of (pieces_closed p f.raw f.commas) ≡ held f
 closed_bytes Before f n = sym n
 closed_bytes Url f n = ap (λ xs. f.raw ++ xs) (append-nil f.commas)
 closed_bytes Commas f n = ap (λ xs. f.raw ++ xs) (append-nil f.commas)
 closed_bytes Descriptors f n = sym n
 closed_bytes Parentheses f n = sym n
 
-closed_references : (p : Place) (raw commas : List ℕ) → flat_map references_of (pieces_closed p raw commas) ≡ left_open p raw
+closed_references : (p : SetPlace) (raw commas : List ℕ) → flat_map references_of (pieces_closed p raw commas) ≡ left_open p raw
 closed_references Before raw commas = refl
 closed_references Url raw commas = refl
 closed_references Commas raw commas = refl
 closed_references Descriptors raw commas = refl
 closed_references Parentheses raw commas = refl
 
-closed_anew : (change : Change) (p : Place) (raw commas : List ℕ) → flat_map (bytes_anew change) (pieces_closed p raw commas) ≡ closed change p raw commas
+closed_anew : (change : Change) (p : SetPlace) (raw commas : List ℕ) → flat_map (bytes_anew change) (pieces_closed p raw commas) ≡ closed change p raw commas
 closed_anew change Before raw commas = refl
 closed_anew change Url raw commas = ap (λ xs. anew change raw ++ xs) (append-nil commas)
 closed_anew change Commas raw commas = ap (λ xs. anew change raw ++ xs) (append-nil commas)

@@ -7,10 +7,10 @@ use Rattle.std.specs.List.{list_all}
 use Rattle.css_links.specs.Rewriting.{Change, or_same, changed}
 use Rattle.source_sets.specs.Sets.{is_white, before, url, commas, turn, Front, front, reference, turned, step, nothing_read, fed, left_open, ended, references}
 use Rattle.source_sets.specs.Rewriting.{ends_well, is_black, CanBeUrl, IsWriting, written_or, anew, Rewrite, out_of, rewrite_step, nothing_written, rewrite_fed, closed, rewrite_ended, rewritten}
-use Rattle.source_sets.specs.declared.place.Turn.{Turn}
-use Rattle.source_sets.specs.declared.place.Turn.TheVariants.{At, First, With, Comma, End}
-use Rattle.source_sets.specs.declared.place.Place.{Place}
-use Rattle.source_sets.specs.declared.place.Place.TheVariants.{Before, Url, Commas, Descriptors, Parentheses}
+use Rattle.source_sets.specs.declared.place.SetTurn.{SetTurn}
+use Rattle.source_sets.specs.declared.place.SetTurn.TheVariants.{At, First, With, Comma, End}
+use Rattle.source_sets.specs.declared.place.SetPlace.{SetPlace}
+use Rattle.source_sets.specs.declared.place.SetPlace.TheVariants.{Before, Url, Commas, Descriptors, Parentheses}
 
 fed-append : (s : Front) (xs ys : List ℕ) → fed s (xs ++ ys) ≡ fed (fed s xs) ys
 fed-append s [] ys = refl
@@ -19,34 +19,34 @@ fed-append s (b ∷ bs) ys = fed-append (step s b) bs ys
 -- ---- which turns there are
 
 -- out of URLs a byte leads out of them
-abbrev pub MoveAt : Place → Place → Type 0
+abbrev pub MoveAt : SetPlace → SetPlace → Type 0
 MoveAt Before q = (q ≡ Before)
 MoveAt Descriptors q = (q ≡ Before) ⊎ ((q ≡ Descriptors) ⊎ (q ≡ Parentheses))
 MoveAt Parentheses q = (q ≡ Descriptors) ⊎ (q ≡ Parentheses)
 MoveAt _ q = ⊥
 
-abbrev pub MoveEnd : Place → Place → ℕ → Type 0
+abbrev pub MoveEnd : SetPlace → SetPlace → ℕ → Type 0
 MoveEnd Url q b = (q ≡ Descriptors) × (is_white b ≡ true)
 MoveEnd Commas q b = (q ≡ Before) × (is_white b ≡ true)
 MoveEnd _ q b = ⊥
 
-abbrev pub MoveIn : Place → Type 0
+abbrev pub MoveIn : SetPlace → Type 0
 MoveIn Url = Unit
 MoveIn Commas = Unit
 MoveIn _ = ⊥
 
-abbrev pub Move : Place → ℕ → Turn → Type 0
+abbrev pub Move : SetPlace → ℕ → SetTurn → Type 0
 Move p b (At q) = MoveAt p q
 Move p b First = p ≡ Before
 Move p b With = MoveIn p
 Move p b Comma = MoveIn p × (b ≡ 44)
 Move p b (End q) = MoveEnd p q b
 
-if_move : (p : Place) (b : ℕ) (c : Bool) (x y : Turn) → (c ≡ true → Move p b x) → (c ≡ false → Move p b y) → Move p b (if c then x else y)
+if_move : (p : SetPlace) (b : ℕ) (c : Bool) (x y : SetTurn) → (c ≡ true → Move p b x) → (c ≡ false → Move p b y) → Move p b (if c then x else y)
 if_move p b true x y h k = h refl
 if_move p b false x y h k = k refl
 
-pub moves : (p : Place) (b : ℕ) → Move p b (turn p b)
+pub moves : (p : SetPlace) (b : ℕ) → Move p b (turn p b)
 moves Before b = if_move Before b (is_white b || b == 44) (At Before) First (λ _. refl) (λ _. refl)
 moves Url b = if_move Url b (is_white b) _ _ (λ e. (refl, e)) (λ _. if_move Url b (b == 44) _ _ (λ e. (tt, eqb-true b 44 e)) (λ _. tt))
 moves Commas b = if_move Commas b (is_white b) _ _ (λ e. (refl, e)) (λ _. if_move Commas b (b == 44) _ _ (λ e. (tt, eqb-true b 44 e)) (λ _. tt))
@@ -65,7 +65,7 @@ not_true true e = absurd (cc)
 not_true false e = refl
 
 -- in a URL, or in one after commas
-abbrev pub inner : Bool → Place
+abbrev pub inner : Bool → SetPlace
 inner true = Commas
 inner false = Url
 
@@ -137,7 +137,7 @@ abbrev pub held : Front → List ℕ
 held f = f.raw ++ f.commas
 
 -- what is known of what was written, beside that it is read as the front
-abbrev pub Good : Change → Place → Front → List ℕ → Type 0
+abbrev pub Good : Change → SetPlace → Front → List ℕ → Type 0
 Good change Before f out = (f.raw ≡ []) × (f.commas ≡ [])
 Good change Url f out = (fed nothing_read out ≡ front Before [] [] (map (changed change) f.found)) × (f.commas ≡ [])
 Good change Commas f out = (fed nothing_read out ≡ front Before [] [] (map (changed change) f.found)) × (are_commas f.commas ≡ true) × (f.commas ≢ [])
@@ -150,34 +150,34 @@ pub record Keeps (change : Change) (f : Front) (out : List ℕ) : Type 0 where
   pub good : Good change f.place f out
 
 -- the byte after all that is written and held back
-read_on : (change : Change) (f : Front) (out : List ℕ) (b : ℕ) (t : Turn) → turn f.place b ≡ t → Keeps change f out
+read_on : (change : Change) (f : Front) (out : List ℕ) (b : ℕ) (t : SetTurn) → turn f.place b ≡ t → Keeps change f out
     → fed nothing_read (out ++ (held f ++ b ∷ [])) ≡ turned (mapped change f) b t
 read_on change f out b t e k =
     ap (fed nothing_read) (sym (append_assoc out (held f) (b ∷ []))) ∙ fed-append nothing_read (out ++ held f) (b ∷ []) ∙ ap (λ s. step s b) k.behind ∙ ap (turned (mapped change f) b) e
 
 -- a place outside of URLs
-abbrev pub Outside : Place → Type 0
+abbrev pub Outside : SetPlace → Type 0
 Outside Before = Unit
 Outside Url = ⊥
 Outside Commas = ⊥
 Outside Descriptors = Unit
 Outside Parentheses = Unit
 
-outside_good : (change : Change) (p : Place) (found : List (List ℕ)) (out : List ℕ) → Outside p → Good change p (front p [] [] found) out
+outside_good : (change : Change) (p : SetPlace) (found : List (List ℕ)) (out : List ℕ) → Outside p → Good change p (front p [] [] found) out
 outside_good change Before found out o = (refl, refl)
 outside_good change Url found out o = absurd o
 outside_good change Commas found out o = absurd o
 outside_good change Descriptors found out o = (refl, refl)
 outside_good change Parentheses found out o = (refl, refl)
 
-outside_nothing : (change : Change) (p : Place) (f : Front) (out : List ℕ) → Outside p → Good change p f out → held f ≡ []
+outside_nothing : (change : Change) (p : SetPlace) (f : Front) (out : List ℕ) → Outside p → Good change p f out → held f ≡ []
 outside_nothing change Before f out o g = rw (g.0, g.1) refl
 outside_nothing change Url f out o g = absurd o
 outside_nothing change Commas f out o g = absurd o
 outside_nothing change Descriptors f out o g = rw (g.0, g.1) refl
 outside_nothing change Parentheses f out o g = rw (g.0, g.1) refl
 
-pub at_outside : (p q : Place) → MoveAt p q → Outside p × Outside q
+pub at_outside : (p q : SetPlace) → MoveAt p q → Outside p × Outside q
 at_outside Before q m = (tt, subst Outside (sym m) tt)
 at_outside Url q m = absurd m
 at_outside Commas q m = absurd m
@@ -187,30 +187,30 @@ at_outside Descriptors q (inr (inr m)) = (tt, subst Outside (sym m) tt)
 at_outside Parentheses q (inl m) = (tt, subst Outside (sym m) tt)
 at_outside Parentheses q (inr m) = (tt, subst Outside (sym m) tt)
 
-free_on : (change : Change) (f : Front) (out : List ℕ) (b : ℕ) (t : Turn) → turn f.place b ≡ t → Outside f.place → Keeps change f out → fed nothing_read (out ++ b ∷ []) ≡ turned (mapped change f) b t
+free_on : (change : Change) (f : Front) (out : List ℕ) (b : ℕ) (t : SetTurn) → turn f.place b ≡ t → Outside f.place → Keeps change f out → fed nothing_read (out ++ b ∷ []) ≡ turned (mapped change f) b t
 free_on change f out b t e o k = ap (λ xs. fed nothing_read (out ++ (xs ++ b ∷ []))) (sym (outside_nothing change f.place f out o k.good)) ∙ read_on change f out b t e k
 
-at_keeps : (change : Change) (f : Front) (out : List ℕ) (b : ℕ) (q : Place) → turn f.place b ≡ At q → MoveAt f.place q → Keeps change f out → Keeps change (front q [] [] f.found) (out ++ b ∷ [])
+at_keeps : (change : Change) (f : Front) (out : List ℕ) (b : ℕ) (q : SetPlace) → turn f.place b ≡ At q → MoveAt f.place q → Keeps change f out → Keeps change (front q [] [] f.found) (out ++ b ∷ [])
 at_keeps change f out b q e m k = record {
   behind = ap (fed nothing_read) (append-nil (out ++ b ∷ [])) ∙ free_on change f out b (At q) e (at_outside f.place q m).0 k;
   good = outside_good change q f.found (out ++ b ∷ []) (at_outside f.place q m).1;
 }
 
 first_keeps : (change : Change) (f : Front) (out : List ℕ) (b : ℕ) → turn f.place b ≡ First → f.place ≡ Before → Keeps change f out → Keeps change (front Url (b ∷ []) [] f.found) out
-first_keeps change f out b e m k = let g : Good change Before f out = subst (λ (p : Place). Good change p f out) m k.good in record {
+first_keeps change f out b e m k = let g : Good change Before f out = subst (λ (p : SetPlace). Good change p f out) m k.good in record {
   behind = free_on change f out b First e (subst Outside (sym m) tt) k;
   good = (ap (fed nothing_read) (sym (append-nil out) ∙ ap (λ xs. out ++ xs) (sym (outside_nothing change Before f out tt g))) ∙ k.behind ∙ rw (m, g.0, g.1) refl, refl);
 }
 
 -- where a URL begins that is being read
-begins : (change : Change) (p : Place) (f : Front) (out : List ℕ) → MoveIn p → Good change p f out → fed nothing_read out ≡ front Before [] [] (map (changed change) f.found)
+begins : (change : Change) (p : SetPlace) (f : Front) (out : List ℕ) → MoveIn p → Good change p f out → fed nothing_read out ≡ front Before [] [] (map (changed change) f.found)
 begins change Before f out m g = absurd m
 begins change Url f out m g = g.0
 begins change Commas f out m g = g.0
 begins change Descriptors f out m g = absurd m
 begins change Parentheses f out m g = absurd m
 
-its_commas : (change : Change) (p : Place) (f : Front) (out : List ℕ) → MoveIn p → Good change p f out → are_commas f.commas ≡ true
+its_commas : (change : Change) (p : SetPlace) (f : Front) (out : List ℕ) → MoveIn p → Good change p f out → are_commas f.commas ≡ true
 its_commas change Before f out m g = absurd m
 its_commas change Url f out m g = ap are_commas g.1
 its_commas change Commas f out m g = g.1
@@ -236,7 +236,7 @@ comma_keeps change f out b e m is k = record {
 -- ---- the end of a URL
 
 -- the commas after a URL that was written, and what they leave
-after_commas : (text : List ℕ) (found : List (List ℕ)) (p : Place) (cs : List ℕ) → MoveIn p → (p ≡ Url → cs ≡ []) → (p ≡ Commas → cs ≢ []) → are_commas cs ≡ true → fed (front Url text [] found) cs ≡ front p text cs found
+after_commas : (text : List ℕ) (found : List (List ℕ)) (p : SetPlace) (cs : List ℕ) → MoveIn p → (p ≡ Url → cs ≡ []) → (p ≡ Commas → cs ≢ []) → are_commas cs ≡ true → fed (front Url text [] found) cs ≡ front p text cs found
 after_commas text found Before cs m u c h = absurd m
 after_commas text found Url cs m u c h = rw (u refl) refl
 after_commas text found Commas [] m u c h = absurd (c refl refl)
@@ -244,7 +244,7 @@ after_commas text found Commas (d ∷ ds) m u c h = comma_reads text found d ds 
 after_commas text found Descriptors cs m u c h = absurd m
 after_commas text found Parentheses cs m u c h = absurd m
 
-white_ends : (p q : Place) (b : ℕ) → MoveEnd p q b → turn p b ≡ End q
+white_ends : (p q : SetPlace) (b : ℕ) → MoveEnd p q b → turn p b ≡ End q
 white_ends Before q b m = absurd m
 white_ends Url q b m = url_ends b m.1 ∙ ap End (sym m.0) where
   url_ends : (b : ℕ) → is_white b ≡ true → url b ≡ End Descriptors
@@ -255,20 +255,20 @@ white_ends Commas q b m = commas_end b m.1 ∙ ap End (sym m.0) where
 white_ends Descriptors q b m = absurd m
 white_ends Parentheses q b m = absurd m
 
-pub end_in : (p q : Place) (b : ℕ) → MoveEnd p q b → MoveIn p × Outside q
+pub end_in : (p q : SetPlace) (b : ℕ) → MoveEnd p q b → MoveIn p × Outside q
 end_in Before q b m = absurd m
 end_in Url q b m = (tt, subst Outside (sym m.0) tt)
 end_in Commas q b m = (tt, subst Outside (sym m.0) tt)
 end_in Descriptors q b m = absurd m
 end_in Parentheses q b m = absurd m
 
-no_commas : (change : Change) (p : Place) (f : Front) (out : List ℕ) → Good change p f out → p ≡ Url → f.commas ≡ []
-no_commas change p f out g e = go (subst (λ (q : Place). Good change q f out) e g) where
+no_commas : (change : Change) (p : SetPlace) (f : Front) (out : List ℕ) → Good change p f out → p ≡ Url → f.commas ≡ []
+no_commas change p f out g e = go (subst (λ (q : SetPlace). Good change q f out) e g) where
   go : Good change Url f out → f.commas ≡ []
   go g = g.1
 
-some_commas : (change : Change) (p : Place) (f : Front) (out : List ℕ) → Good change p f out → p ≡ Commas → f.commas ≢ []
-some_commas change p f out g e = go (subst (λ (q : Place). Good change q f out) e g) where
+some_commas : (change : Change) (p : SetPlace) (f : Front) (out : List ℕ) → Good change p f out → p ≡ Commas → f.commas ≢ []
+some_commas change p f out g e = go (subst (λ (q : SetPlace). Good change q f out) e g) where
   go : Good change Commas f out → f.commas ≢ []
   go g = g.2
 
@@ -287,7 +287,7 @@ utf8_written : (text : List ℕ) → CanBeUrl text → reference text ≡ text
 utf8_written [] w = absurd w
 utf8_written (b ∷ bs) w = w.utf8
 
-end_keeps : (change : Change) → IsWriting change → (f : Front) (out : List ℕ) (b : ℕ) (q : Place) → turn f.place b ≡ End q → MoveEnd f.place q b → Keeps change f out
+end_keeps : (change : Change) → IsWriting change → (f : Front) (out : List ℕ) (b : ℕ) (q : SetPlace) → turn f.place b ≡ End q → MoveEnd f.place q b → Keeps change f out
     → Keeps change (front q [] [] (f.found ++ reference f.raw ∷ [])) (out ++ (anew change f.raw ++ (f.commas ++ b ∷ [])))
 end_keeps change writing f out b q e m k = record {
   behind =
@@ -312,7 +312,7 @@ end_keeps change writing f out b q e m k = record {
 
 keeps_step : (change : Change) → IsWriting change → (w : Rewrite) (b : ℕ) → Keeps change w.front w.out → Keeps change (rewrite_step change w b).front (rewrite_step change w b).out
 keeps_step change writing w b k = go (turn w.front.place b) refl (moves w.front.place b) where
-  go : (t : Turn) → turn w.front.place b ≡ t → Move w.front.place b t → Keeps change (turned w.front b t) (out_of change w b t)
+  go : (t : SetTurn) → turn w.front.place b ≡ t → Move w.front.place b t → Keeps change (turned w.front b t) (out_of change w b t)
   go (At q) e m = at_keeps change w.front w.out b q e m k
   go First e m = first_keeps change w.front w.out b e m k
   go With e m = with_keeps change w.front w.out b e m k
@@ -329,35 +329,35 @@ front_fed change w (b ∷ bs) = front_fed change (rewrite_step change w b) bs
 
 -- ---- the end of the set
 
-in_open : (p : Place) (raw : List ℕ) → MoveIn p → left_open p raw ≡ reference raw ∷ []
+in_open : (p : SetPlace) (raw : List ℕ) → MoveIn p → left_open p raw ≡ reference raw ∷ []
 in_open Before raw m = absurd m
 in_open Url raw m = refl
 in_open Commas raw m = refl
 in_open Descriptors raw m = absurd m
 in_open Parentheses raw m = absurd m
 
-in_closed : (change : Change) (p : Place) (raw commas : List ℕ) → MoveIn p → closed change p raw commas ≡ anew change raw ++ commas
+in_closed : (change : Change) (p : SetPlace) (raw commas : List ℕ) → MoveIn p → closed change p raw commas ≡ anew change raw ++ commas
 in_closed change Before raw commas m = absurd m
 in_closed change Url raw commas m = refl
 in_closed change Commas raw commas m = refl
 in_closed change Descriptors raw commas m = absurd m
 in_closed change Parentheses raw commas m = absurd m
 
-out_open : (p : Place) (raw : List ℕ) → Outside p → left_open p raw ≡ []
+out_open : (p : SetPlace) (raw : List ℕ) → Outside p → left_open p raw ≡ []
 out_open Before raw o = refl
 out_open Url raw o = absurd o
 out_open Commas raw o = absurd o
 out_open Descriptors raw o = refl
 out_open Parentheses raw o = refl
 
-out_closed : (change : Change) (p : Place) (raw commas : List ℕ) → Outside p → closed change p raw commas ≡ []
+out_closed : (change : Change) (p : SetPlace) (raw commas : List ℕ) → Outside p → closed change p raw commas ≡ []
 out_closed change Before raw commas o = refl
 out_closed change Url raw commas o = absurd o
 out_closed change Commas raw commas o = absurd o
 out_closed change Descriptors raw commas o = refl
 out_closed change Parentheses raw commas o = refl
 
-in_or_out : (p : Place) → MoveIn p ⊎ Outside p
+in_or_out : (p : SetPlace) → MoveIn p ⊎ Outside p
 in_or_out Before = inr tt
 in_or_out Url = inl tt
 in_or_out Commas = inl tt

@@ -4,10 +4,10 @@ use Rattle.std.specs.List.{list_all, flat_map}
 use Rattle.std.specs.Str.Lossy.{utf8_lossy}
 use Rattle.css_links.specs.Rewriting.{Change}
 use Rattle.source_sets.specs.Sets.{Front, is_white, turn, reference, step, nothing_read, references}
-use Rattle.source_sets.specs.declared.place.Turn.{Turn}
-use Rattle.source_sets.specs.declared.place.Turn.TheVariants.{At, First, With, Comma, End}
-use Rattle.source_sets.specs.declared.place.Place.{Place}
-use Rattle.source_sets.specs.declared.place.Place.TheVariants.{Before, Url, Commas, Descriptors, Parentheses}
+use Rattle.source_sets.specs.declared.place.SetTurn.{SetTurn}
+use Rattle.source_sets.specs.declared.place.SetTurn.TheVariants.{At, First, With, Comma, End}
+use Rattle.source_sets.specs.declared.place.SetPlace.{SetPlace}
+use Rattle.source_sets.specs.declared.place.SetPlace.TheVariants.{Before, Url, Commas, Descriptors, Parentheses}
 
 -- whether the last byte is none of the commas that end a URL
 abbrev pub ends_well : ℕ → List ℕ → Bool
@@ -50,7 +50,7 @@ pub record Rewrite : Type 0 where
   pub out : List ℕ
 
 -- what is written when a byte does this
-abbrev pub out_of : Change → Rewrite → ℕ → Turn → List ℕ
+abbrev pub out_of : Change → Rewrite → ℕ → SetTurn → List ℕ
 out_of change w b (At p) = w.out ++ b ∷ []
 out_of change w b First = w.out
 out_of change w b With = w.out
@@ -71,7 +71,7 @@ rewrite_fed change w [] = w
 rewrite_fed change w (b ∷ bs) = rewrite_fed change (rewrite_step change w b) bs
 
 -- what the end of the set adds: a URL that it ends
-abbrev pub closed : Change → Place → List ℕ → List ℕ → List ℕ
+abbrev pub closed : Change → SetPlace → List ℕ → List ℕ → List ℕ
 closed change Before raw commas = []
 closed change Url raw commas = anew change raw ++ commas
 closed change Commas raw commas = anew change raw ++ commas

@@ -1,10 +1,10 @@
 -- The URLs of a source set, in its order (HTML Standard, section 4.8.4.3.10: parsing a srcset attribute).
 use Rattle.std.specs.Prelude.{ℕ, Bool, ◌||◌, List, [], ◌∷◌, ◌++◌, if◌then◌else◌, ◌==◌}
 use Rattle.std.specs.Str.Lossy.{utf8_lossy}
-use Rattle.source_sets.specs.declared.place.Turn.{Turn}
-use Rattle.source_sets.specs.declared.place.Turn.TheVariants.{At, First, With, Comma, End}
-use Rattle.source_sets.specs.declared.place.Place.{Place}
-use Rattle.source_sets.specs.declared.place.Place.TheVariants.{Before, Url, Commas, Descriptors, Parentheses}
+use Rattle.source_sets.specs.declared.place.SetTurn.{SetTurn}
+use Rattle.source_sets.specs.declared.place.SetTurn.TheVariants.{At, First, With, Comma, End}
+use Rattle.source_sets.specs.declared.place.SetPlace.{SetPlace}
+use Rattle.source_sets.specs.declared.place.SetPlace.TheVariants.{Before, Url, Commas, Descriptors, Parentheses}
 
 -- ASCII white: tab, line feed, form feed, carriage return, space
 abbrev pub is_white : ℕ → Bool
@@ -13,26 +13,26 @@ is_white b = b == 9 || b == 10 || b == 12 || b == 13 || b == 32
 -- ---- what a byte does in its place
 
 -- before a candidate: white and commas are passed over
-abbrev pub before : ℕ → Turn
+abbrev pub before : ℕ → SetTurn
 before b = if is_white b || b == 44 then At Before else First
 
 -- in a URL: white ends it, and descriptors follow; a comma may end it
-abbrev pub url : ℕ → Turn
+abbrev pub url : ℕ → SetTurn
 url b = if is_white b then End Descriptors else if b == 44 then Comma else With
 
 -- after commas: white ends the URL before them, and no descriptor follows; else they are the URL's own
-abbrev pub commas : ℕ → Turn
+abbrev pub commas : ℕ → SetTurn
 commas b = if is_white b then End Before else if b == 44 then Comma else With
 
 -- in descriptors: a comma ends them, but not one in parentheses
-abbrev pub descriptors : ℕ → Turn
+abbrev pub descriptors : ℕ → SetTurn
 descriptors b = if b == 44 then At Before else if b == 40 then At Parentheses else At Descriptors
 
-abbrev pub parentheses : ℕ → Turn
+abbrev pub parentheses : ℕ → SetTurn
 parentheses b = if b == 41 then At Descriptors else At Parentheses
 
 -- in any place
-abbrev pub turn : Place → ℕ → Turn
+abbrev pub turn : SetPlace → ℕ → SetTurn
 turn Before b = before b
 turn Url b = url b
 turn Commas b = commas b
@@ -43,13 +43,13 @@ turn Parentheses b = parentheses b
 
 -- the front of a set: where it ends, the URL that it ends in, the commas after that, and the URLs before it
 pub record Front : Type 0 where
-  pub place : Place
+  pub place : SetPlace
   pub raw : List ℕ
   pub commas : List ℕ
   pub found : List (List ℕ)
 
 -- that front
-abbrev pub front : Place → List ℕ → List ℕ → List (List ℕ) → Front
+abbrev pub front : SetPlace → List ℕ → List ℕ → List (List ℕ) → Front
 front p r c f = record { place = p; raw = r; commas = c; found = f }
 
 -- the URL of a text, decoded as UTF-8
@@ -57,7 +57,7 @@ abbrev pub reference : List ℕ → List ℕ
 reference raw = utf8_lossy raw
 
 -- what a byte that does this makes of a front
-abbrev pub turned : Front → ℕ → Turn → Front
+abbrev pub turned : Front → ℕ → SetTurn → Front
 turned s b (At p) = front p [] [] s.found
 turned s b First = front Url (b ∷ []) [] s.found
 turned s b With = front Url (s.raw ++ (s.commas ++ b ∷ [])) [] s.found
@@ -78,7 +78,7 @@ fed s [] = s
 fed s (b ∷ bs) = fed (step s b) bs
 
 -- the URL that the end of the set ends
-abbrev pub left_open : Place → List ℕ → List (List ℕ)
+abbrev pub left_open : SetPlace → List ℕ → List (List ℕ)
 left_open Before raw = []
 left_open Url raw = reference raw ∷ []
 left_open Commas raw = reference raw ∷ []

@@ -5,12 +5,12 @@ use std::marker::Model;
 
 /// A URL of a source set, not yet joined to a base. Contracts see its bytes.
 #[derive(Debug, Drop)]
-pub struct Found {
+pub struct FoundSource {
     /// The text, neither joined nor checked.
     pub text: String,
 }
 
-impl Model for Found {
+impl Model for FoundSource {
     ghost Value = { List ℕ };
 
     ghost view = { λ f. string_bytes f.text };

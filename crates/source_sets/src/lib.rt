@@ -12,6 +12,6 @@ mod machine;
 mod place;
 mod rewriter;
 
-pub use crate::found::Found;
+pub use crate::found::FoundSource;
 pub use crate::machine::scan;
 pub use crate::rewriter::rewrite;

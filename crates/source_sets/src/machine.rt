@@ -3,27 +3,27 @@ ghost use Rattle.std.specs.Prelude.{◌≡◌, ◌++◌, ◌∷◌, [], OnOk, If
 ghost use Rattle.source_sets.specs.Sets.{nothing_read, left_open, ended, reference, references, step, turned, fed};
 ghost use Rattle.source_sets.specs.Reading.{front_of};
 
-use crate::found::Found;
-use crate::place::{Place, Turn, turn_at};
+use crate::found::FoundSource;
+use crate::place::{SetPlace, SetTurn, turn_at};
 use std::alloc::{AllocError, Global};
 
 /// How far a set was read: the place, the URL that is being read and the commas after it, and what was found.
 #[derive(Drop)]
-pub(crate) struct Machine {
+pub(crate) struct SetMachine {
     alloc: Global,
-    pub(crate) place: Place,
+    pub(crate) place: SetPlace,
     pub(crate) raw: Vec<u8>,
     pub(crate) commas: Vec<u8>,
-    found: Vec<Found>,
+    found: Vec<FoundSource>,
 }
 
-impl Machine {
+impl SetMachine {
     pub(crate) fn new(alloc: Global) -> Self
         ensures { front_of result ≡ nothing_read }
     {
-        Machine {
+        SetMachine {
             alloc,
-            place: Place::Before,
+            place: SetPlace::Before,
             raw: Vec::new(alloc),
             commas: Vec::new(alloc),
             found: Vec::new(alloc),
@@ -38,26 +38,26 @@ impl Machine {
     }
 
     /// Does what the byte does in its place.
-    pub(crate) fn follow(&mut self, turn: Turn, byte: u8) -> Result<(), AllocError>
+    pub(crate) fn follow(&mut self, turn: SetTurn, byte: u8) -> Result<(), AllocError>
         ensures { OnOk result (front_of self.new ≡ turned (front_of self.old) byte turn) }
     {
         match turn {
-            Turn::At(place) => self.go(place),
-            Turn::First => {
-                self.go(Place::Url);
+            SetTurn::At(place) => self.go(place),
+            SetTurn::First => {
+                self.go(SetPlace::Url);
                 self.raw.push(byte)?;
             },
-            Turn::With => {
+            SetTurn::With => {
                 self.raw.extend_from_slice(&self.commas)?;
                 self.raw.push(byte)?;
                 self.commas.clear();
-                self.place = Place::Url;
+                self.place = SetPlace::Url;
             },
-            Turn::Comma => {
+            SetTurn::Comma => {
                 self.commas.push(byte)?;
-                self.place = Place::Commas;
+                self.place = SetPlace::Commas;
             },
-            Turn::End(place) => {
+            SetTurn::End(place) => {
                 self.note()?;
                 self.go(place);
             },
@@ -66,7 +66,7 @@ impl Machine {
     }
 
     // Goes to a place with no text.
-    fn go(&mut self, place: Place)
+    fn go(&mut self, place: SetPlace)
         ensures place { self.new.place ≡ place }
         ensures raw { self.new.raw.items ≡ [] }
         ensures commas { self.new.commas.items ≡ [] }
@@ -82,7 +82,7 @@ impl Machine {
         ensures { OnOk result (self.new.found.items ≡ self.old.found.items ++ reference self.old.raw.items ∷ []) }
     {
         let text = String::from_utf8_lossy(self.alloc, &self.raw)?;
-        self.found.push(Found { text })?;
+        self.found.push(FoundSource { text })?;
         Ok(())
     }
 
@@ -91,11 +91,11 @@ impl Machine {
         ensures { OnOk result (self.new.found.items ≡ self.old.found.items ++ left_open self.old.place self.old.raw.items) }
     {
         match self.place {
-            Place::Before => Ok(()),
-            Place::Url => self.note(),
-            Place::Commas => self.note(),
-            Place::Descriptors => Ok(()),
-            Place::Parentheses => Ok(()),
+            SetPlace::Before => Ok(()),
+            SetPlace::Url => self.note(),
+            SetPlace::Commas => self.note(),
+            SetPlace::Descriptors => Ok(()),
+            SetPlace::Parentheses => Ok(()),
         }
     }
 
@@ -112,21 +112,21 @@ impl Machine {
     }
 
     // The URLs of a set of which all was read.
-    fn finish(mut self) -> Result<Vec<Found>, AllocError>
+    fn finish(mut self) -> Result<Vec<FoundSource>, AllocError>
         ensures { IfOk result (λ found. found.items ≡ ended (front_of self)) }
     {
         self.close()?;
-        let Machine { found, .. } = self;
+        let SetMachine { found, .. } = self;
         Ok(found)
     }
 }
 
 /// The URLs of a source set, in its order. Fails only if memory runs out.
 #[tactic(auto, unfolding(crate::specs::Sets::references))]
-pub fn scan(alloc: Global, set: &[u8]) -> Result<Vec<Found>, AllocError>
+pub fn scan(alloc: Global, set: &[u8]) -> Result<Vec<FoundSource>, AllocError>
     ensures { IfOk result (λ found. found.items ≡ references set.now) }
 {
-    let mut machine = Machine::new(alloc);
+    let mut machine = SetMachine::new(alloc);
     machine.feed(set)?;
     machine.finish()
 }

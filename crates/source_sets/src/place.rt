@@ -4,7 +4,7 @@ ghost use Rattle.source_sets.specs.Sets.{is_white, turn};
 
 /// Where in the set the next byte is.
 #[derive(Clone, Copy)]
-pub(crate) enum Place {
+pub(crate) enum SetPlace {
     /// Before a candidate: white and commas.
     Before,
     /// In a URL.
@@ -19,9 +19,9 @@ pub(crate) enum Place {
 
 /// What a byte does in its place.
 #[derive(Clone, Copy)]
-pub(crate) enum Turn {
+pub(crate) enum SetTurn {
     /// It leads to that place, outside of URLs.
-    At(Place),
+    At(SetPlace),
     /// A URL begins with it.
     First,
     /// The URL goes on with it.
@@ -29,7 +29,7 @@ pub(crate) enum Turn {
     /// It is a comma that may end the URL.
     Comma,
     /// It ends the URL, and leads to that place.
-    End(Place),
+    End(SetPlace),
 }
 
 pub(crate) fn is_white(byte: u8) -> bool
@@ -39,72 +39,72 @@ pub(crate) fn is_white(byte: u8) -> bool
 }
 
 /// What a byte does in a place.
-pub(crate) fn turn_at(place: Place, byte: u8) -> Turn
+pub(crate) fn turn_at(place: SetPlace, byte: u8) -> SetTurn
     ensures { result ≡ turn place byte }
 {
     match place {
-        Place::Before => before(byte),
-        Place::Url => url(byte),
-        Place::Commas => commas(byte),
-        Place::Descriptors => descriptors(byte),
-        Place::Parentheses => parentheses(byte),
+        SetPlace::Before => before(byte),
+        SetPlace::Url => url(byte),
+        SetPlace::Commas => commas(byte),
+        SetPlace::Descriptors => descriptors(byte),
+        SetPlace::Parentheses => parentheses(byte),
     }
 }
 
 ghost use Rattle.source_sets.specs.Sets as sets;
 
-fn before(byte: u8) -> Turn
+fn before(byte: u8) -> SetTurn
     ensures { result ≡ sets.before byte }
 {
     if is_white(byte) || byte == b',' {
-        Turn::At(Place::Before)
+        SetTurn::At(SetPlace::Before)
     } else {
-        Turn::First
+        SetTurn::First
     }
 }
 
-fn url(byte: u8) -> Turn
+fn url(byte: u8) -> SetTurn
     ensures { result ≡ sets.url byte }
 {
     if is_white(byte) {
-        Turn::End(Place::Descriptors)
+        SetTurn::End(SetPlace::Descriptors)
     } else if byte == b',' {
-        Turn::Comma
+        SetTurn::Comma
     } else {
-        Turn::With
+        SetTurn::With
     }
 }
 
-fn commas(byte: u8) -> Turn
+fn commas(byte: u8) -> SetTurn
     ensures { result ≡ sets.commas byte }
 {
     if is_white(byte) {
-        Turn::End(Place::Before)
+        SetTurn::End(SetPlace::Before)
     } else if byte == b',' {
-        Turn::Comma
+        SetTurn::Comma
     } else {
-        Turn::With
+        SetTurn::With
     }
 }
 
-fn descriptors(byte: u8) -> Turn
+fn descriptors(byte: u8) -> SetTurn
     ensures { result ≡ sets.descriptors byte }
 {
     if byte == b',' {
-        Turn::At(Place::Before)
+        SetTurn::At(SetPlace::Before)
     } else if byte == b'(' {
-        Turn::At(Place::Parentheses)
+        SetTurn::At(SetPlace::Parentheses)
     } else {
-        Turn::At(Place::Descriptors)
+        SetTurn::At(SetPlace::Descriptors)
     }
 }
 
-fn parentheses(byte: u8) -> Turn
+fn parentheses(byte: u8) -> SetTurn
     ensures { result ≡ sets.parentheses byte }
 {
     if byte == b')' {
-        Turn::At(Place::Descriptors)
+        SetTurn::At(SetPlace::Descriptors)
     } else {
-        Turn::At(Place::Parentheses)
+        SetTurn::At(SetPlace::Parentheses)
     }
 }

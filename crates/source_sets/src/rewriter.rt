@@ -6,16 +6,16 @@ ghost use Rattle.source_sets.specs.Rewriting as rewriting;
 ghost use Rattle.source_sets.specs.Rewriting.{IsWriting, IsAnew, rewritten};
 ghost use Rattle.source_sets.specs.Reading.{rewrite_of};
 
-use crate::machine::Machine;
-use crate::place::{Place, Turn, turn_at};
+use crate::machine::SetMachine;
+use crate::place::{SetPlace, SetTurn, turn_at};
 use css_links::Change;
 use std::alloc::{AllocError, Global};
 
 /// How far a set was written anew: what was read, and what was written.
 #[derive(Drop)]
-pub(crate) struct Rewriter {
+pub(crate) struct SetRewriter {
     alloc: Global,
-    machine: Machine,
+    machine: SetMachine,
     out: Vec<u8>,
 }
 
@@ -43,13 +43,13 @@ fn push_anew<C: Change>(
     push_or(out, raw, &other)
 }
 
-impl Rewriter {
+impl SetRewriter {
     fn new(alloc: Global) -> Self
         ensures { rewrite_of result ≡ rewriting.nothing_written }
     {
-        Rewriter {
+        SetRewriter {
             alloc,
-            machine: Machine::new(alloc),
+            machine: SetMachine::new(alloc),
             out: Vec::new(alloc),
         }
     }
@@ -64,16 +64,16 @@ impl Rewriter {
     }
 
     // Writes what a byte that does this makes ready.
-    fn write<C: Change>(&mut self, change: &C, turn: Turn, byte: u8) -> Result<(), AllocError>
+    fn write<C: Change>(&mut self, change: &C, turn: SetTurn, byte: u8) -> Result<(), AllocError>
         ensures out { OnOk result (self.new.out.items ≡ rewriting.out_of (C.becomes change.now) (rewrite_of self.old) byte turn) }
         ensures machine { OnOk result (self.new.machine ≡ self.old.machine) }
     {
         match turn {
-            Turn::At(_) => self.out.push(byte)?,
-            Turn::First => (),
-            Turn::With => (),
-            Turn::Comma => (),
-            Turn::End(_) => {
+            SetTurn::At(_) => self.out.push(byte)?,
+            SetTurn::First => (),
+            SetTurn::With => (),
+            SetTurn::Comma => (),
+            SetTurn::End(_) => {
                 self.write_url(change)?;
                 self.out.push(byte)?;
             },
@@ -107,11 +107,11 @@ impl Rewriter {
         ensures { OnOk result (self.new.out.items ≡ rewriting.rewrite_ended (C.becomes change.now) (rewrite_of self.old)) }
     {
         match self.machine.place {
-            Place::Before => Ok(()),
-            Place::Url => self.write_url(change),
-            Place::Commas => self.write_url(change),
-            Place::Descriptors => Ok(()),
-            Place::Parentheses => Ok(()),
+            SetPlace::Before => Ok(()),
+            SetPlace::Url => self.write_url(change),
+            SetPlace::Commas => self.write_url(change),
+            SetPlace::Descriptors => Ok(()),
+            SetPlace::Parentheses => Ok(()),
         }
     }
 
@@ -120,7 +120,7 @@ impl Rewriter {
         ensures { IfOk result (λ out. out.items ≡ rewriting.rewrite_ended (C.becomes change.now) (rewrite_of self)) }
     {
         self.close(change)?;
-        let Rewriter { out, .. } = self;
+        let SetRewriter { out, .. } = self;
         Ok(out)
     }
 }
@@ -134,7 +134,7 @@ pub fn rewrite<C: Change>(alloc: Global, change: &C, set: &[u8]) -> Result<Vec<u
     ensures kept { IfOk result (λ out. IsAnew (C.becomes change.now) set.now out.items) }
     ensures references { IsWriting (C.becomes change.now) → IfOk result (λ out. references out.items ≡ map (changed (C.becomes change.now)) (references set.now)) }
 {
-    let mut rewriter = Rewriter::new(alloc);
+    let mut rewriter = SetRewriter::new(alloc);
     rewriter.feed(change, set)?;
     Ok(rewriter.finish(change)?)
 }

@@ -5,7 +5,7 @@ ghost use Rattle.start_lists.specs.Lists.{base_of_document, html_starts, link_st
 
 use crate::resolved::{resolved, unless_robots};
 use address::Address;
-use html_links::{Found, Scan, scan};
+use html_links::{FoundLink, Scan, scan};
 use std::alloc::{AllocError, Global};
 
 // What the links of a document are joined to, if its first `base` names it.
@@ -29,7 +29,7 @@ fn push_link(
     starts: &mut Vec<Address>,
     by_proxy: bool,
     base: Option<&Address>,
-    link: &Found,
+    link: &FoundLink,
 ) -> Result<(), AllocError>
     ensures { OnOk result (starts.new.items ≡ starts.old.items ++ link_starts by_proxy (option_map (λ b. b.now) base.entry) link.now) }
 {
@@ -48,7 +48,7 @@ fn starts_of_links(
     alloc: Global,
     by_proxy: bool,
     base: Option<&Address>,
-    links: &[Found],
+    links: &[FoundLink],
 ) -> Result<Vec<Address>, AllocError>
     ensures { IfOk result (λ starts. starts.items ≡ flat_map (link_starts by_proxy (option_map (λ b. b.now) base.entry)) links.now) }
 {

@@ -4,7 +4,7 @@ ghost use Rattle.std.specs.Io.{ReadsAtMost};
 
 use crate::flow::wait_flow;
 use crate::hosts::Hosts;
-use crate::kept::Taken;
+use crate::kept::PlaceInUse;
 use address::Origin;
 use pacing::Manner;
 use std::io;
@@ -28,7 +28,7 @@ pub struct Connection<'a, R: Net + Wait + Clock> {
     rate: Option<u64>,
     failed: bool,
     of: Origin,
-    place: Option<Taken<'a, R::Stream>>,
+    place: Option<PlaceInUse<'a, R::Stream>>,
 }
 
 impl<'a, R: Net + Wait + Clock> Model for Connection<'a, R> {
@@ -86,7 +86,7 @@ impl<'a, R: Net + Wait + Clock> Connection<'a, R> {
         hosts: &'a Hosts,
         stream: R::Stream,
         of: Origin,
-        place: Option<Taken<'a, R::Stream>>,
+        place: Option<PlaceInUse<'a, R::Stream>>,
         manner: &Manner,
     ) -> Connection<'a, R>
         ensures { result ≡ of }
@@ -112,7 +112,7 @@ impl<'a, R: Net + Wait + Clock> Connection<'a, R> {
     }
 
     // The origin that it was made for, the connection again, if none of its calls failed, and its place.
-    pub(crate) fn into_parts(self) -> (Origin, Option<R::Stream>, Option<Taken<'a, R::Stream>>)
+    pub(crate) fn into_parts(self) -> (Origin, Option<R::Stream>, Option<PlaceInUse<'a, R::Stream>>)
         ensures { result.0 ≡ self.entry }
     {
         let Connection {

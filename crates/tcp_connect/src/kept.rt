@@ -5,7 +5,7 @@ ghost use Rattle.run_failures.specs.Unasked.{unasked_line, with_origin};
 ghost use Rattle.tcp_connect.specs.Standing.{waits, EndsFirst, Leaves, TakesKept, EntersKept, PutsKept};
 
 pub(crate) use crate::standing::MOST;
-use crate::standing::{Entered, Standing};
+use crate::standing::{Entered, OpenConnections};
 use address::Origin;
 use libc::net::{POLLIN, poll};
 use libc::types::pollfd;
@@ -33,7 +33,7 @@ pub(crate) struct Waiting<S: Drop> {
 // none is kept any more.
 #[derive(Drop)]
 pub(crate) struct Pooled<W> {
-    standing: Standing<W>,
+    standing: OpenConnections<W>,
     unasked: Unasked,
 }
 
@@ -51,7 +51,7 @@ impl<W: Drop> Pooled<W> {
         ensures { result ≡ record { pool = record { stands = []; entered = 0 }; unasked = [] } }
     {
         Pooled {
-            standing: Standing::new(alloc),
+            standing: OpenConnections::new(alloc),
             unasked: Unasked::new(alloc),
         }
     }
@@ -117,15 +117,15 @@ impl<W: Drop> Pooled<W> {
 
 /// The connections of a run that are kept, shared by all its workers. Those in use are counted with those that wait. The lock is
 /// held while one is looked for, counted or put down, and never while one is made, used, looked at or closed.
-pub struct Kept<S: Drop> {
+pub struct KeptConnections<S: Drop> {
     alloc: Global,
     pooled: Mutex<Pooled<Waiting<S>>>,
 }
 
 // By hand: who drops one proves a call, and nothing of what it holds.
-impl<S: Drop> Drop for Kept<S> {
+impl<S: Drop> Drop for KeptConnections<S> {
     fn drop(self) {
-        let Kept {
+        let KeptConnections {
             alloc: _alloc,
             pooled: _pooled,
         } = self;
@@ -134,20 +134,20 @@ impl<S: Drop> Drop for Kept<S> {
 
 // The place of a connection that is in use. It can't be dropped: whoever ends the connection leaves it, or keeps the connection
 // there, and there is no third way.
-pub(crate) struct Taken<'k, S: Drop> {
-    kept: &'k Kept<S>,
+pub(crate) struct PlaceInUse<'k, S: Drop> {
+    kept: &'k KeptConnections<S>,
     number: u64,
 }
 
-impl<'k, S: Drop> Taken<'k, S> {
+impl<'k, S: Drop> PlaceInUse<'k, S> {
     // Those that it is among.
-    pub(crate) fn kept(&self) -> &'k Kept<S> {
+    pub(crate) fn kept(&self) -> &'k KeptConnections<S> {
         self.kept
     }
 
     // The connection isn't open any more.
     pub(crate) fn leave<R: Wait>(self, rt: &R) {
-        let Taken { kept, number } = self;
+        let PlaceInUse { kept, number } = self;
         kept.pooled.lock(rt).leave(number);
     }
 
@@ -156,23 +156,23 @@ impl<'k, S: Drop> Taken<'k, S> {
         self,
         rt: &R,
         waiting: Waiting<S>,
-    ) -> Option<(Taken<'k, S>, Waiting<S>)> {
-        let Taken { kept, number } = self;
+    ) -> Option<(PlaceInUse<'k, S>, Waiting<S>)> {
+        let PlaceInUse { kept, number } = self;
         let Ok(of) = waiting.of.try_clone() else {
-            return Some((Taken { kept, number }, waiting));
+            return Some((PlaceInUse { kept, number }, waiting));
         };
         let back = put_among(&mut kept.pooled.lock(rt), &of, number, waiting);
         match back {
-            Some(waiting) => Some((Taken { kept, number }, waiting)),
+            Some(waiting) => Some((PlaceInUse { kept, number }, waiting)),
             None => None,
         }
     }
 }
 
-impl<S: Drop> Kept<S> {
+impl<S: Drop> KeptConnections<S> {
     /// None is open. Takes no memory.
-    pub fn new(alloc: Global) -> Kept<S> {
-        Kept {
+    pub fn new(alloc: Global) -> KeptConnections<S> {
+        KeptConnections {
             alloc,
             pooled: Mutex::new(Pooled::new(alloc)),
         }
@@ -189,12 +189,12 @@ impl<S: Drop> Kept<S> {
         &'k self,
         rt: &R,
         of: &Origin,
-    ) -> Option<(Taken<'k, S>, Waiting<S>)>
+    ) -> Option<(PlaceInUse<'k, S>, Waiting<S>)>
         ensures { IfSome result (λ taken. taken.1.of ≡ of.now) }
     {
         let taken = self.pooled.lock(rt).take(of);
         let (number, waiting) = taken?;
-        let place = Taken { kept: self, number };
+        let place = PlaceInUse { kept: self, number };
         if waiting.of == *of {
             return Some((place, waiting));
         }
@@ -208,11 +208,11 @@ impl<S: Drop> Kept<S> {
         rt: &R,
         of: &Origin,
         most: usize,
-    ) -> Result<(Option<Taken<'k, S>>, Option<Waiting<S>>), AllocError> {
+    ) -> Result<(Option<PlaceInUse<'k, S>>, Option<Waiting<S>>), AllocError> {
         let entered = self.pooled.lock(rt).enter(self.alloc, of, most);
         let Entered { place, ended } = entered?;
         match place {
-            Some(number) => Ok((Some(Taken { kept: self, number }), ended)),
+            Some(number) => Ok((Some(PlaceInUse { kept: self, number }), ended)),
             None => Ok((None, ended)),
         }
     }
@@ -233,7 +233,7 @@ impl<S: Drop> Kept<S> {
     }
 }
 
-impl<S: OpenStream + AsRawFd + Drop> Kept<S> {
+impl<S: OpenStream + AsRawFd + Drop> KeptConnections<S> {
     /// Ends those that wait. Each holds a descriptor, which files need too once a run has requested all.
     pub fn end_waiting<R: Wait>(&self, rt: &R) {
         for _ in 0..MOST {

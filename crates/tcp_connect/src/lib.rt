@@ -15,5 +15,5 @@ mod turn;
 
 pub use connection::Connection;
 pub use hosts::Hosts;
-pub use kept::Kept;
+pub use kept::KeptConnections;
 pub use tcp_connect::TcpConnect;

@@ -10,13 +10,13 @@ pub(crate) const MOST: usize = 64;
 
 // An open connection: its number, the text of the origin that it was made for, and what waits there, if it isn't in use.
 #[derive(Drop)]
-pub(crate) struct Place<W> {
+pub(crate) struct OpenConnection<W> {
     number: u64,
     of: String,
     waiting: Option<W>,
 }
 
-impl<W> Model for Place<W> {
+impl<W> Model for OpenConnection<W> {
     ghost use Rattle.std.specs.Prelude.{string_bytes};
     ghost use Rattle.tcp_connect.specs.Standing.{Stand};
 
@@ -25,7 +25,7 @@ impl<W> Model for Place<W> {
     ghost view = { λ p. record { number = p.number; of = string_bytes p.of; waiting = p.waiting } };
 }
 
-impl<W> Place<W> {
+impl<W> OpenConnection<W> {
     fn number(&self) -> u64
         ensures { result ≡ self.now.number }
     {
@@ -60,7 +60,7 @@ impl<W> Place<W> {
     fn into_waiting(self) -> Option<W>
         ensures { result ≡ self.waiting }
     {
-        let Place { waiting, .. } = self;
+        let OpenConnection { waiting, .. } = self;
         waiting
     }
 
@@ -90,35 +90,35 @@ impl<W> Place<W> {
 }
 
 // The first of those that wait.
-fn first_waiting<W>(places: &[Place<W>]) -> Option<usize>
+fn first_waiting<W>(places: &[OpenConnection<W>]) -> Option<usize>
     ensures { MatchOption result (NonePasses waits places.now) (λ at. (stand : Stand W) × IsFirst waits places.now at stand) }
 {
     places.iter().position(|it| it.waits())
 }
 
 // The first of those that wait for this origin.
-fn first_waiting_for<W>(places: &[Place<W>], of: &str) -> Option<usize>
+fn first_waiting_for<W>(places: &[OpenConnection<W>], of: &str) -> Option<usize>
     ensures { MatchOption result (NonePasses (waits_for of.now) places.now) (λ at. (stand : Stand W) × IsFirst (waits_for of.now) places.now at stand) }
 {
     places.iter().position(|it| it.waits_for(of))
 }
 
 // The last of those that wait for this origin.
-fn last_waiting_for<W>(places: &[Place<W>], of: &str) -> Option<usize>
+fn last_waiting_for<W>(places: &[OpenConnection<W>], of: &str) -> Option<usize>
     ensures { MatchOption result (NonePasses (waits_for of.now) places.now) (λ at. (stand : Stand W) × IsLastStand (waits_for of.now) places.now at stand) }
 {
     places.iter().rposition(|it| it.waits_for(of))
 }
 
 // The one of this number.
-fn numbered<W>(places: &[Place<W>], number: u64) -> Option<usize>
+fn numbered<W>(places: &[OpenConnection<W>], number: u64) -> Option<usize>
     ensures { MatchOption result (NonePasses (has_number number) places.now) (λ at. (stand : Stand W) × IsFirst (has_number number) places.now at stand) }
 {
     places.iter().position(|it| it.has_number(number))
 }
 
 // How many of these are connections to an origin.
-fn count<W>(places: &[Place<W>], of: &str) -> usize
+fn count<W>(places: &[OpenConnection<W>], of: &str) -> usize
     ensures { result ≡ count_to places.now of.now }
 {
     places.iter().filter(|it| it.is_to(of)).count()
@@ -133,14 +133,14 @@ pub(crate) struct Entered<W> {
 
 // The open ones. One that is put down to wait goes to the end, so those that wait are in the order of their waits.
 #[derive(Drop)]
-pub(crate) struct Standing<W> {
-    places: Vec<Place<W>>,
+pub(crate) struct OpenConnections<W> {
+    places: Vec<OpenConnection<W>>,
     entered: u64,
 }
 
 // Contracts see what is open, and how many were entered. Of every value it holds that no more are open than may be, each by a
 // number of its own.
-impl<W> Model for Standing<W> {
+impl<W> Model for OpenConnections<W> {
     ghost use Rattle.tcp_connect.specs.Standing.{Pool, IsStandPool};
 
     ghost Value = { Pool W };
@@ -150,12 +150,12 @@ impl<W> Model for Standing<W> {
     ghost invariant = { λ s. IsStandPool (record { stands = s.places.items; entered = s.entered }) };
 }
 
-impl<W> Standing<W> {
+impl<W> OpenConnections<W> {
     // None is open. Takes no memory.
-    pub(crate) fn new(alloc: Global) -> Standing<W>
+    pub(crate) fn new(alloc: Global) -> OpenConnections<W>
         ensures { result ≡ record { stands = []; entered = 0 } }
     {
-        Standing {
+        OpenConnections {
             places: Vec::new(alloc),
             entered: 0,
         }
@@ -199,7 +199,7 @@ impl<W> Standing<W> {
             return Ok(None);
         }
         let number = self.entered;
-        let place = Place {
+        let place = OpenConnection {
             number,
             of,
             waiting: None,
@@ -212,7 +212,7 @@ impl<W> Standing<W> {
     }
 }
 
-impl<W: Drop> Standing<W> {
+impl<W: Drop> OpenConnections<W> {
     // Takes the one there away, with what waits there.
     fn remove(&mut self, at: usize) -> Option<W>
         requires { at < length self.old.stands }

@@ -8,7 +8,7 @@ ghost use Rattle.connect.specs.Connects.{CountsRefusal, refused_by};
 
 use crate::connection::Connection;
 use crate::hosts::{Host, Hosts, Known, has};
-use crate::kept::{Kept, MOST, Taken, Waiting, is_fresh};
+use crate::kept::{KeptConnections, MOST, PlaceInUse, Waiting, is_fresh};
 use crate::lacks::{Lack, OpenFault, Patience, lack_of, loss_of};
 use crate::turn::{hold_turn, space_turns, wait_turn};
 use address::{Origin, Scheme};
@@ -31,7 +31,7 @@ const CLOSE_TIMEOUT: u64 = 100;
 // What a run keeps of connections, and how many may be open to a server.
 #[derive(Drop)]
 struct Keeping<'a, S: Drop> {
-    kept: &'a Kept<S>,
+    kept: &'a KeptConnections<S>,
     most: usize,
 }
 
@@ -262,7 +262,7 @@ impl<'a, R: Net + Wait + Clock> TcpConnect<'a, R> {
     }
 
     /// The same, which keeps connections among those of the run: at most so many are open to a server at any time.
-    pub fn keeping(self, kept: &'a Kept<R::Stream>, most: u32) -> TcpConnect<'a, R>
+    pub fn keeping(self, kept: &'a KeptConnections<R::Stream>, most: u32) -> TcpConnect<'a, R>
         ensures { result ≡ record self.entry { most = Some most } }
     {
         let most = most as usize;
@@ -316,13 +316,13 @@ impl<'a, R: Net + Wait + Clock> TcpConnect<'a, R> {
     }
 
     // Where connections are kept.
-    fn kept(&self) -> Option<&'a Kept<R::Stream>> {
+    fn kept(&self) -> Option<&'a KeptConnections<R::Stream>> {
         let keeping = self.keeping.as_ref()?;
         Some(keeping.kept)
     }
 
     // A place for a new connection to an origin, if connections are kept. One that waited may have to go for it.
-    fn enter(&self, of: &Origin) -> Result<Option<Taken<'a, R::Stream>>, AllocError> {
+    fn enter(&self, of: &Origin) -> Result<Option<PlaceInUse<'a, R::Stream>>, AllocError> {
         let Some(Keeping { kept, most }) = &self.keeping else {
             return Ok(None);
         };
@@ -335,7 +335,7 @@ impl<'a, R: Net + Wait + Clock> TcpConnect<'a, R> {
     }
 
     // The connection of this place isn't open any more.
-    fn leave(&self, place: Option<Taken<'a, R::Stream>>) {
+    fn leave(&self, place: Option<PlaceInUse<'a, R::Stream>>) {
         match place {
             Some(place) => place.leave(self.rt),
             None => {}
@@ -343,7 +343,11 @@ impl<'a, R: Net + Wait + Clock> TcpConnect<'a, R> {
     }
 
     // A connection to an origin that waits, not too long, and from which nothing can be read. Others are ended.
-    fn next_kept(&self, kept: &'a Kept<R::Stream>, of: &Origin) -> Option<Connection<'a, R>>
+    fn next_kept(
+        &self,
+        kept: &'a KeptConnections<R::Stream>,
+        of: &Origin,
+    ) -> Option<Connection<'a, R>>
         ensures { IfSome result (λ connection. connection ≡ of.now) }
     {
         for _ in 0..MOST {
@@ -360,7 +364,7 @@ impl<'a, R: Net + Wait + Clock> TcpConnect<'a, R> {
     }
 
     // Ends those that wait too long.
-    fn end_stale(&self, kept: &Kept<R::Stream>) {
+    fn end_stale(&self, kept: &KeptConnections<R::Stream>) {
         for _ in 0..MOST {
             match kept.take_stale(self.rt) {
                 Some(stale) => kept.end(self.rt, stale),
@@ -389,9 +393,9 @@ impl<'a, R: Net + Wait + Clock> TcpConnect<'a, R> {
     fn keep(
         &self,
         of: Origin,
-        place: Taken<'a, R::Stream>,
+        place: PlaceInUse<'a, R::Stream>,
         stream: R::Stream,
-    ) -> Option<Taken<'a, R::Stream>> {
+    ) -> Option<PlaceInUse<'a, R::Stream>> {
         if !place.kept().is_quiet(self.rt, &of, &stream) {
             return Some(place);
         }
@@ -410,7 +414,7 @@ impl<'a, R: Net + Wait + Clock> TcpConnect<'a, R> {
         &self,
         stream: R::Stream,
         of: Origin,
-        place: Option<Taken<'a, R::Stream>>,
+        place: Option<PlaceInUse<'a, R::Stream>>,
     ) -> Connection<'a, R>
         ensures { result ≡ of }
     {
@@ -483,7 +487,7 @@ impl<'a, R: Net + Wait + Clock> TcpConnect<'a, R> {
     }
 
     // Ends a connection, and leaves its place. One that failed says nothing of how the server ends it: it is ended at once.
-    fn end_parts(&mut self, stream: Option<R::Stream>, place: Option<Taken<'a, R::Stream>>)
+    fn end_parts(&mut self, stream: Option<R::Stream>, place: Option<PlaceInUse<'a, R::Stream>>)
         ensures { self.new ≡ self.old }
     {
         match stream {
@@ -495,7 +499,7 @@ impl<'a, R: Net + Wait + Clock> TcpConnect<'a, R> {
     }
 
     // Keeps a connection that was made for an origin in its place, or ends it: one that failed isn't kept.
-    fn put_down(&mut self, of: Origin, stream: Option<R::Stream>, place: Taken<'a, R::Stream>)
+    fn put_down(&mut self, of: Origin, stream: Option<R::Stream>, place: PlaceInUse<'a, R::Stream>)
         ensures { self.new ≡ self.old }
     {
         self.end_stale(place.kept());

@@ -13,7 +13,7 @@ use Rattle.http_fetcher.specs.Meanings.{MayAnswerWithin}
 use Rattle.mirror_index.specs.Entries.{Entry}
 use Rattle.mirror_index.specs.Indexes.{HasThis}
 use Rattle.part_keeper.specs.Parts.{holds_part, holds_received}
-use Rattle.part_keeper.specs.declared.part.Part.{Part}
+use Rattle.part_keeper.specs.declared.part.KeptPart.{KeptPart}
 use Rattle.pacing.specs.Retries.{Retried}
 use Rattle.requests.specs.Conditions.{Condition}
 use Rattle.requests.specs.Requests.{Sending}
@@ -46,26 +46,26 @@ forgotten condition None = refl
 forgotten condition (Some sends) = refl
 
 -- an answer with a digest represents what it represents without
-pub stands_without : (limits : Limited) (links : LinkRules) (at : AddressText) (answer : Answer (Digested Part))
+pub stands_without : (limits : Limited) (links : LinkRules) (at : AddressText) (answer : Answer (Digested KeptPart))
     → StandsForAnswer (HoldsDigested holds_received) limits links at answer → StandsForAnswer holds_received limits links at (without_digest answer)
 stands_without limits links at answer (real, (outcome, (holds, digest)), may) = (real, (outcome, holds), may)
 
 -- what was received is one that the site may give
-pub stands_received : (limits : Limited) (links : LinkRules) (at : AddressText) (answer : Answer Part)
+pub stands_received : (limits : Limited) (links : LinkRules) (at : AddressText) (answer : Answer KeptPart)
     → StandsForAnswer holds_received limits links at answer → StandsForAnswer holds_part limits links at answer
 stands_received limits links at answer (real, (outcome, (holds, received)), may) = (real, (outcome, holds), may)
 
 module _ {C : Type 0} (limits : Limited) (at : AddressText) (retries : Retried) (ask : Ask) where
-  bare : List (Answer (Digested Part) × Fetching C) → List (Answer Part × Fetching C)
+  bare : List (Answer (Digested KeptPart) × Fetching C) → List (Answer KeptPart × Fetching C)
   bare [] = []
   bare (e ∷ es) = (without_digest e.0, e.1) ∷ bare es
 
-  bare_length : (es : List (Answer (Digested Part) × Fetching C)) → length (bare es) ≡ length es
+  bare_length : (es : List (Answer (Digested KeptPart) × Fetching C)) → length (bare es) ≡ length es
   unfolding bare
   bare_length [] = refl
   bare_length (e ∷ es) = ap suc (bare_length es)
 
-  tries_without : (old : Fetching C) (earlier : List (Answer (Digested Part) × Fetching C)) (new : Fetching C) (answer : Answer (Digested Part))
+  tries_without : (old : Fetching C) (earlier : List (Answer (Digested KeptPart) × Fetching C)) (new : Fetching C) (answer : Answer (Digested KeptPart))
       → AreTries asks_of (MayKeep (HoldsDigested holds_received) limits at) (is_worth_answer retries) ask old earlier new answer
       → AreTries asks_of (MayKeep holds_received limits at) (is_worth_answer retries) ask old (bare earlier) new (without_digest answer)
   unfolding bare
@@ -74,7 +74,7 @@ module _ {C : Type 0} (limits : Limited) (at : AddressText) (retries : Retried) 
       ((tries.0.0, stands_without limits old.links at e.0 tries.0.1), tries.1, tries_without e.1 es new answer tries.2)
 
   -- what is received last is so without its digest
-  pub last_without : (most : ℕ) (old new : Fetching C) (answer : Answer (Digested Part))
+  pub last_without : (most : ℕ) (old new : Fetching C) (answer : Answer (Digested KeptPart))
       → IsLastOf asks_of (MayKeep (HoldsDigested holds_received) limits at) (is_worth_answer retries) ask most old new answer
       → IsLastOf asks_of (MayKeep holds_received limits at) (is_worth_answer retries) ask most old new (without_digest answer)
   last_without most old new answer (earlier, tries, few, inl worthless) =
@@ -83,7 +83,7 @@ module _ {C : Type 0} (limits : Limited) (at : AddressText) (retries : Retried) 
       (bare earlier, tries_without old earlier new answer tries, subst (λ n. n ≤ most) (sym (bare_length earlier)) few, inr (bare_length earlier ∙ all))
 
 -- an answer of the recorded status, whose body has the recorded digest, and is read from an earlier run's file
-pub recorded : (limits : Limited) (links : LinkRules) (at : AddressText) (entry : Entry) (answer : Answer (Digested Part)) (digest : List ℕ) (status : ℕ)
+pub recorded : (limits : Limited) (links : LinkRules) (at : AddressText) (entry : Entry) (answer : Answer (Digested KeptPart)) (digest : List ℕ) (status : ℕ)
     → digest ≡ entry.digest → status ≡ entry.head.status
     → (answer.body.digest ≡ Some digest) × (has_status answer.outcome status ≡ true)
     → StandsForAnswer (HoldsDigested holds_received) limits links at answer
@@ -95,10 +95,10 @@ recorded limits links at entry answer digest status same_digest same_status (own
     (subst (λ s. has_status answer.outcome s ≡ true) same_status says, refl, (real, (outcome, holds), (may, sym known ∙ same_digest)))
 
 -- it is one that the site may give
-pub may_recorded : (fetcher : Lasting) (at : AddressText) (entry : Entry) (answer : Answer Part) → IsRecorded fetcher at entry answer → MayAnswerIn (site_of fetcher) at answer.outcome answer.body
+pub may_recorded : (fetcher : Lasting) (at : AddressText) (entry : Entry) (answer : Answer KeptPart) → IsRecorded fetcher at entry answer → MayAnswerIn (site_of fetcher) at answer.outcome answer.body
 may_recorded fetcher at entry answer (says, left, (real, kept, (may, digest))) = (real, kept, may)
 
-module _ (fetcher : Lasting) (at : AddressText) (old new : Fetching Connecting) (answer : Answer Part) where
+module _ (fetcher : Lasting) (at : AddressText) (old new : Fetching Connecting) (answer : Answer KeptPart) where
   -- what is received over the network is answered, whatever is known
   pub answered_anew : (known : Option Earlier) → IsReceived fetcher at old new answer → IsAnsweredBy fetcher at known old new answer
   answered_anew None received = received
@@ -110,7 +110,7 @@ module _ (fetcher : Lasting) (at : AddressText) (old new : Fetching Connecting) 
   answered_by known earlier is answered = subst (λ k. IsAnsweredBy fetcher at k old new answer) (sym is) answered
 
 -- what is received with a condition, if that is set before and taken away after
-pub received_under : {E : Type 0} (known : Option Earlier) (inner set : TcpFetching) (condition : Condition) (at : AddressText) (r : Result (Answer Part) E) (left : Fetching Connecting)
+pub received_under : {E : Type 0} (known : Option Earlier) (inner set : TcpFetching) (condition : Condition) (at : AddressText) (r : Result (Answer KeptPart) E) (left : Fetching Connecting)
     → set ≡ record inner { sends = with_condition (Some condition) inner.sends; single = conditioned (Some condition) inner.single }
     → IfOk r (IsTold (lasting (record set { known = known })) at (IsReceived (lasting (record set { known = known })) at set.single left))
     → IfOk r (IsTold (lasting (record inner { known = known })) at (IsReceivedUnder (lasting (record inner { known = known })) at condition inner.single (conditioned None left)))
@@ -120,28 +120,28 @@ received_under known inner set condition at r left is received =
 
 -- what is answered by an entry is answered by what is known
 module _ (fetcher : Lasting) (at : AddressText) (old new : Fetching Connecting) (earlier : Earlier) (entry : Entry) where
-  of_changed : (a : Answer Part) → HasThis earlier.pages at entry → earlier.is_asked ≡ true
+  of_changed : (a : Answer KeptPart) → HasThis earlier.pages at entry → earlier.is_asked ≡ true
       → IsReceived fetcher at old new a ⊎ IsReceivedIfChanged fetcher at entry old new a → IsReceived fetcher at old new a ⊎ IsOfEarlier fetcher at earlier old new a
   of_changed a has asked (inl received) = inl received
   of_changed a has asked (inr changed) = inr (entry, has, inl (asked, changed))
 
-  of_missing : (a : Answer Part) → HasThis earlier.pages at entry → earlier.is_asked ≡ false
+  of_missing : (a : Answer KeptPart) → HasThis earlier.pages at entry → earlier.is_asked ≡ false
       → IsReceived fetcher at old new a ⊎ IsLeft fetcher at entry old new a → IsReceived fetcher at old new a ⊎ IsOfEarlier fetcher at earlier old new a
   of_missing a has unasked (inl received) = inl received
   of_missing a has unasked (inr left) = inr (entry, has, inr (unasked, left))
 
-  pub kept_changed : {E : Type 0} (r : Result (Answer Part) E) → fetcher.known ≡ Some earlier → HasThis earlier.pages at entry → earlier.is_asked ≡ true
+  pub kept_changed : {E : Type 0} (r : Result (Answer KeptPart) E) → fetcher.known ≡ Some earlier → HasThis earlier.pages at entry → earlier.is_asked ≡ true
       → IfOk r (IsTold fetcher at (λ a. IsReceived fetcher at old new a ⊎ IsReceivedIfChanged fetcher at entry old new a))
       → IfOk r (IsTold fetcher at (IsAnswered fetcher at old new))
   kept_changed r is has asked answered = if_ok_map r _ _ answered (λ a told. (told.0, answered_by fetcher at old new a fetcher.known earlier is (of_changed a has asked told.1)))
 
-  pub kept_missing : {E : Type 0} (r : Result (Answer Part) E) → fetcher.known ≡ Some earlier → HasThis earlier.pages at entry → earlier.is_asked ≡ false
+  pub kept_missing : {E : Type 0} (r : Result (Answer KeptPart) E) → fetcher.known ≡ Some earlier → HasThis earlier.pages at entry → earlier.is_asked ≡ false
       → IfOk r (IsTold fetcher at (λ a. IsReceived fetcher at old new a ⊎ IsLeft fetcher at entry old new a))
       → IfOk r (IsTold fetcher at (IsAnswered fetcher at old new))
   kept_missing r is has unasked answered = if_ok_map r _ _ answered (λ a told. (told.0, answered_by fetcher at old new a fetcher.known earlier is (of_missing a has unasked told.1)))
 
 -- that a page was noted changes nothing of its answer
-pub answered_noted : {E : Type 0} (known : Option Earlier) (inner noted : TcpFetching) (asks : List Ask) (at : AddressText) (r : Result (Answer Part) E) (new : Fetching Connecting)
+pub answered_noted : {E : Type 0} (known : Option Earlier) (inner noted : TcpFetching) (asks : List Ask) (at : AddressText) (r : Result (Answer KeptPart) E) (new : Fetching Connecting)
     → noted ≡ record inner { asks = asks }
     → IfOk r (IsTold (lasting (record noted { known = known })) at (IsAnswered (lasting (record noted { known = known })) at noted.single new))
     → IfOk r (IsTold (lasting (record inner { known = known })) at (IsAnswered (lasting (record inner { known = known })) at inner.single new))
@@ -149,7 +149,7 @@ answered_noted known inner noted asks at r new is answered =
     subst (λ (f : TcpFetching). IfOk r (IsTold (lasting (record f { known = known })) at (IsAnswered (lasting (record f { known = known })) at f.single new))) is answered
 
 -- the same of a page that isn't kept
-pub passed_noted : {E : Type 0} (known : Option Earlier) (inner noted : TcpFetching) (asks : List Ask) (at : AddressText) (r : Result (Answer Part) E) (new : Fetching Connecting)
+pub passed_noted : {E : Type 0} (known : Option Earlier) (inner noted : TcpFetching) (asks : List Ask) (at : AddressText) (r : Result (Answer KeptPart) E) (new : Fetching Connecting)
     → noted ≡ record inner { asks = asks }
     → IfOk r (IsReceived (lasting noted) at noted.single new)
     → IfOk r (IsAnswered (lasting (record inner { known = known })) at inner.single new)

@@ -15,7 +15,7 @@ use Rattle.mirror_index.specs.Entries.{Entry}
 use Rattle.mirror_index.specs.Indexes.{HasThis}
 use Rattle.earlier_pages.specs.Pages.{condition_by}
 use Rattle.part_keeper.specs.Parts.{holds_part, holds_received}
-use Rattle.part_keeper.specs.declared.part.Part.{Part}
+use Rattle.part_keeper.specs.declared.part.KeptPart.{KeptPart}
 use Rattle.pacing.specs.Retries.{Retried}
 use Rattle.requests.specs.Conditions.{Condition}
 use Rattle.requests.specs.Requests.{Sending}
@@ -59,21 +59,21 @@ has_status (Leaf status) said = status == said
 has_status (Fault kind) said = false
 
 -- an answer whose body was read from an earlier run's file
-abbrev pub not_received : Answer Part → Answer Part
+abbrev pub not_received : Answer KeptPart → Answer KeptPart
 not_received answer = record { outcome = answer.outcome; body = record answer.body { is_received = false } }
 
 -- an answer without the digest of its body
-abbrev pub without_digest : Answer (Digested Part) → Answer Part
+abbrev pub without_digest : Answer (Digested KeptPart) → Answer KeptPart
 without_digest answer = record { outcome = answer.outcome; body = answer.body.kept }
 
 module _ (fetcher : Lasting) (at : AddressText) where
   -- the answer is one that the site may give, and of which this holds
-  abbrev pub IsTold : (Answer Part → Type 0) → Answer Part → Type 0
+  abbrev pub IsTold : (Answer KeptPart → Type 0) → Answer KeptPart → Type 0
   IsTold Holds answer = MayAnswerIn (site_of fetcher) at answer.outcome answer.body × Holds answer
 
   -- the answer is one that the site may give, of the status that was recorded, and its body, which this run didn't receive, has the SHA-256
   -- that was recorded
-  abbrev pub IsRecorded : Entry → Answer Part → Type 0
+  abbrev pub IsRecorded : Entry → Answer KeptPart → Type 0
   IsRecorded entry answer =
       (has_status answer.outcome entry.head.status ≡ true)
       × (answer.body.is_received ≡ false)
@@ -81,44 +81,44 @@ module _ (fetcher : Lasting) (at : AddressText) where
 
   -- from one of these to the other the network is asked once, or again if that is worth it, and what is received last is the answer, whose
   -- body counts as received
-  abbrev pub IsReceived : Fetching Connecting → Fetching Connecting → Answer Part → Type 0
+  abbrev pub IsReceived : Fetching Connecting → Fetching Connecting → Answer KeptPart → Type 0
   IsReceived old new answer =
       IsLastOf asks_of (MayKeep holds_received fetcher.limits at) (is_worth_answer fetcher.retries) (ask.Page at) fetcher.retries.most old new answer
 
   -- the page is requested with this condition, and this is received last; there is no condition from then on
-  abbrev pub IsReceivedUnder : Condition → Fetching Connecting → Fetching Connecting → Answer Part → Type 0
+  abbrev pub IsReceivedUnder : Condition → Fetching Connecting → Fetching Connecting → Answer KeptPart → Type 0
   IsReceivedUnder condition old new answer =
       (left : Fetching Connecting) × IsReceived (conditioned (Some condition) old) left answer × (new ≡ conditioned None left)
 
   -- what was received for a request with a condition is the answer, unless the server said that the page is as it was: then that is what was
   -- recorded, or, if no file has its bytes any more, what is received without a condition
-  abbrev pub IsConcluded : Entry → Answer Part → Fetching Connecting → Fetching Connecting → Answer Part → Type 0
+  abbrev pub IsConcluded : Entry → Answer KeptPart → Fetching Connecting → Fetching Connecting → Answer KeptPart → Type 0
   IsConcluded entry received old new answer =
       ((is_unchanged received.outcome ≡ false) × (answer ≡ received) × (new ≡ old))
       ⊎ ((is_unchanged received.outcome ≡ true) × IsRecorded entry answer × (new ≡ old))
       ⊎ ((is_unchanged received.outcome ≡ true) × IsReceived old new answer)
 
   -- the page is requested with the condition of its own entry, and what is received last decides
-  abbrev pub IsReceivedIfChanged : Entry → Fetching Connecting → Fetching Connecting → Answer Part → Type 0
+  abbrev pub IsReceivedIfChanged : Entry → Fetching Connecting → Fetching Connecting → Answer KeptPart → Type 0
   IsReceivedIfChanged entry old new answer =
       (condition : Condition) × (condition_by entry ≡ Some condition)
-      × (asked : Fetching Connecting) × (received : Answer Part) × IsReceivedUnder condition old asked received
+      × (asked : Fetching Connecting) × (received : Answer KeptPart) × IsReceivedUnder condition old asked received
       × IsConcluded entry received asked new answer
 
   -- the network isn't asked: what was recorded is the answer
-  abbrev pub IsLeft : Entry → Fetching Connecting → Fetching Connecting → Answer Part → Type 0
+  abbrev pub IsLeft : Entry → Fetching Connecting → Fetching Connecting → Answer KeptPart → Type 0
   IsLeft entry old new answer = IsRecorded entry answer × (new ≡ old)
 
   -- the answer is by the entry of the address in an earlier run's index
-  abbrev pub IsOfEarlier : Earlier → Fetching Connecting → Fetching Connecting → Answer Part → Type 0
+  abbrev pub IsOfEarlier : Earlier → Fetching Connecting → Fetching Connecting → Answer KeptPart → Type 0
   IsOfEarlier earlier old new answer =
       (entry : Entry) × HasThis earlier.pages at entry
       × (((earlier.is_asked ≡ true) × IsReceivedIfChanged entry old new answer) ⊎ ((earlier.is_asked ≡ false) × IsLeft entry old new answer))
 
   -- what is answered, by what is known of an earlier run: if nothing is, what is received last
-  abbrev pub IsAnsweredBy : Option Earlier → Fetching Connecting → Fetching Connecting → Answer Part → Type 0
+  abbrev pub IsAnsweredBy : Option Earlier → Fetching Connecting → Fetching Connecting → Answer KeptPart → Type 0
   IsAnsweredBy None old new answer = IsReceived old new answer
   IsAnsweredBy (Some earlier) old new answer = IsReceived old new answer ⊎ IsOfEarlier earlier old new answer
 
-  abbrev pub IsAnswered : Fetching Connecting → Fetching Connecting → Answer Part → Type 0
+  abbrev pub IsAnswered : Fetching Connecting → Fetching Connecting → Answer KeptPart → Type 0
   IsAnswered old new answer = IsAnsweredBy fetcher.known old new answer

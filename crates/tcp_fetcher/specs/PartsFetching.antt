@@ -4,7 +4,7 @@ use Rattle.robots_rules.specs.Access.{RuleSetValue}
 use Rattle.http_fetcher.specs.Meanings.{MayRule}
 use Rattle.fetcher.specs.declared.outcome.Outcome.{Outcome}
 use Rattle.part_keeper.specs.Parts.{holds_part}
-use Rattle.part_keeper.specs.declared.part.Part.{Part}
+use Rattle.part_keeper.specs.declared.part.KeptPart.{KeptPart}
 use Rattle.response_reader.specs.Limits.{Limited}
 use Rattle.retries.specs.Keeping.{StandsForAnswer}
 use Rattle.tcp_fetcher.specs.TcpFetching.{TcpFetching}
@@ -19,7 +19,7 @@ abbrev pub parts_site : TcpFetching → PartsSite
 parts_site f = (f.links, f.limits)
 
 -- the outcome, with this part, is an answer that the site may give
-abbrev pub MayAnswerIn : PartsSite → AddressText → Outcome → Part → Type 0
+abbrev pub MayAnswerIn : PartsSite → AddressText → Outcome → KeptPart → Type 0
 MayAnswerIn site at x part = StandsForAnswer holds_part site.1 site.0 at (record { outcome = x; body = part })
 
 -- which rules an origin may have: robots files are as long as they may be elsewhere

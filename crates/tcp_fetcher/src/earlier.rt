@@ -14,7 +14,7 @@ pub struct Earlier {
 
 /// What an index gets of a page that was kept.
 #[derive(Drop)]
-pub struct PageNote {
+pub struct IndexNote {
     /// Its address.
     pub at: Address,
     /// How many bytes its body has.

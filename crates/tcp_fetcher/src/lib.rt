@@ -9,6 +9,6 @@ mod over_tcp;
 mod parts_over_tcp;
 mod watched_tcp;
 
-pub use crate::earlier::{Earlier, PageNote};
+pub use crate::earlier::{Earlier, IndexNote};
 pub use crate::over_tcp::OverTcp;
 pub use crate::parts_over_tcp::PartsOverTcp;

@@ -33,7 +33,7 @@ use std::marker::Model;
 use std::net::Net;
 use std::sync::Wait;
 use std::time::Clock;
-use tcp_connect::{Hosts, Kept};
+use tcp_connect::{Hosts, KeptConnections};
 
 /// Asks over TCP, again after answers and faults that are worth it, and shows on the terminal what results.
 pub struct OverTcp<'a, R: Net + Wait + Clock + Eprint> {
@@ -91,7 +91,7 @@ impl<'a, R: Net + Wait + Clock + Eprint> OverTcp<'a, R> {
         rt: &'a R,
         alloc: Global,
         hosts: &'a Hosts,
-        kept: &'a Kept<R::Stream>,
+        kept: &'a KeptConnections<R::Stream>,
         progress: &'a ProgressLine<'a, R>,
         links: LinkRules,
         most: Option<u32>,

@@ -7,7 +7,7 @@ ghost use Rattle.http_fetcher.specs.Fetching.{with_condition};
 ghost use Rattle.tcp_fetcher.specs.Answering.{IsAnswered, IsConcluded, IsLeft, IsReceived, IsReceivedIfChanged, IsReceivedUnder, IsRecorded, IsTold, has_status, is_unchanged, lasting, not_received, without_digest};
 ghost use Rattle.tcp_fetcher.specs.PartsFetching.{MayAnswerIn, MayRuleIn, PartsSite, parts_site};
 
-use crate::earlier::{Earlier, PageNote};
+use crate::earlier::{Earlier, IndexNote};
 use crate::over_tcp::OverTcp;
 use address::{Address, Origin};
 use answer_notes::Telling;
@@ -18,7 +18,7 @@ use fetcher::{Answer, Ask, Fetcher, Outcome};
 use http_fetcher::answer_over;
 use kept_bodies::BodyKind;
 use mirror_index::KeptHead;
-use part_keeper::{Part, PartCounter, PartKeeper, PartsDir, Standing};
+use part_keeper::{KeptPart, PartCounter, PartKeeper, PartsDir, Standing};
 use requests::Condition;
 use response_answer::PageSink;
 use response_reader::TcpWire;
@@ -31,7 +31,7 @@ use std::net::Net;
 use std::sync::{Arc, Wait};
 use std::time::Clock;
 use streams::{Close, Lock};
-use tcp_connect::Kept;
+use tcp_connect::KeptConnections;
 
 /// Asks over TCP as [`OverTcp`] does, and has each page's body kept in a file of its own while it arrives.
 pub struct PartsOverTcp<'a, R: Net + Wait + Clock + Eprint + Files>
@@ -51,7 +51,7 @@ where
     is_requested: bool,
     alloc: Global,
     rt: &'a R,
-    kept: &'a Kept<R::Stream>,
+    kept: &'a KeptConnections<R::Stream>,
     parts: &'a PartsDir<R::File>,
 }
 
@@ -101,7 +101,7 @@ where
         rt: &'a R,
         alloc: Global,
         inner: OverTcp<'a, R>,
-        kept: &'a Kept<R::Stream>,
+        kept: &'a KeptConnections<R::Stream>,
         parts: &'a PartsDir<R::File>,
         rules: Option<Arc<EarlyRules>>,
         earlier: Option<Arc<Earlier>>,
@@ -125,7 +125,7 @@ where
     }
 
     // The answer, whose body's digest is that of the last one from then on.
-    fn taken(&mut self, answer: Answer<Digested<Part>>) -> Answer<Part>
+    fn taken(&mut self, answer: Answer<Digested<KeptPart>>) -> Answer<KeptPart>
         ensures answer { result ≡ without_digest answer }
         ensures fetcher { self.new ≡ self.old }
     {
@@ -139,7 +139,7 @@ where
     }
 
     // Requests a page over the network that was noted.
-    fn ask_noted(&mut self, at: &Address) -> Result<Answer<Part>, AllocError>
+    fn ask_noted(&mut self, at: &Address) -> Result<Answer<KeptPart>, AllocError>
         ensures received { IfOk result (IsTold (lasting self.old) at.now (IsReceived (lasting self.old) at.now self.old.single self.new.single)) }
         ensures lasting { lasting self.new ≡ lasting self.old }
     {
@@ -152,7 +152,7 @@ where
         &mut self,
         at: &Address,
         page: EarlierPage<'_, R::File>,
-    ) -> Result<Option<Answer<Part>>, AllocError>
+    ) -> Result<Option<Answer<KeptPart>>, AllocError>
         ensures recorded { IfOk result (λ found. IfSome found (IsRecorded (lasting self.old) at.now page.entry.entry)) }
         ensures fetcher { self.new ≡ self.old }
     {
@@ -173,7 +173,7 @@ where
         &mut self,
         at: &Address,
         mut page: EarlierPage<'_, R::File>,
-    ) -> Result<Option<Answer<Part>>, AllocError>
+    ) -> Result<Option<Answer<KeptPart>>, AllocError>
         ensures recorded { IfOk result (λ found. IfSome found (IsRecorded (lasting self.old) at.now page.entry.entry)) }
         ensures fetcher { self.new ≡ self.old }
     {
@@ -188,7 +188,11 @@ where
     }
 
     // Requests a page over the network, with this condition alone.
-    fn ask_under(&mut self, at: &Address, condition: Condition) -> Result<Answer<Part>, AllocError>
+    fn ask_under(
+        &mut self,
+        at: &Address,
+        condition: Condition,
+    ) -> Result<Answer<KeptPart>, AllocError>
         ensures received { IfOk result (IsTold (lasting self.old) at.now (IsReceivedUnder (lasting self.old) at.now condition self.old.single self.new.single)) }
         ensures lasting { lasting self.new ≡ lasting self.old }
     {
@@ -204,8 +208,8 @@ where
         &mut self,
         at: &Address,
         page: EarlierPage<'_, R::File>,
-        received: Answer<Part>,
-    ) -> Result<Answer<Part>, AllocError>
+        received: Answer<KeptPart>,
+    ) -> Result<Answer<KeptPart>, AllocError>
         requires { MayAnswerIn (parts_site self.old) at.now received.outcome received.body }
         ensures concluded { IfOk result (IsTold (lasting self.old) at.now (IsConcluded (lasting self.old) at.now page.entry.entry received self.old.single self.new.single)) }
         ensures lasting { lasting self.new ≡ lasting self.old }
@@ -224,7 +228,7 @@ where
         &mut self,
         at: &Address,
         page: EarlierPage<'_, R::File>,
-    ) -> Result<Answer<Part>, AllocError>
+    ) -> Result<Answer<KeptPart>, AllocError>
         ensures answered { IfOk result (IsTold (lasting self.old) at.now (λ a. IsReceived (lasting self.old) at.now self.old.single self.new.single a ⊎ IsReceivedIfChanged (lasting self.old) at.now page.entry.entry self.old.single self.new.single a)) }
         ensures lasting { lasting self.new ≡ lasting self.old }
     {
@@ -240,7 +244,7 @@ where
         &mut self,
         at: &Address,
         page: EarlierPage<'_, R::File>,
-    ) -> Result<Answer<Part>, AllocError>
+    ) -> Result<Answer<KeptPart>, AllocError>
         ensures answered { IfOk result (IsTold (lasting self.old) at.now (λ a. IsReceived (lasting self.old) at.now self.old.single self.new.single a ⊎ IsLeft (lasting self.old) at.now page.entry.entry self.old.single self.new.single a)) }
         ensures lasting { lasting self.new ≡ lasting self.old }
     {
@@ -254,7 +258,7 @@ where
     }
 
     // Answers for a page that is kept: by what an earlier run has of it, if that is still there and it didn't change.
-    fn ask_kept(&mut self, at: &Address) -> Result<Answer<Part>, AllocError>
+    fn ask_kept(&mut self, at: &Address) -> Result<Answer<KeptPart>, AllocError>
         ensures answered { IfOk result (IsTold (lasting self.old) at.now (IsAnswered (lasting self.old) at.now self.old.single self.new.single)) }
         ensures lasting { lasting self.new ≡ lasting self.old }
     {
@@ -276,8 +280,8 @@ where
     pub fn note(
         &self,
         at: &Address,
-        answer: &Answer<Part>,
-    ) -> Result<Option<PageNote>, AllocError> {
+        answer: &Answer<KeptPart>,
+    ) -> Result<Option<IndexNote>, AllocError> {
         let Some(digest) = self.last else {
             return Ok(None);
         };
@@ -287,7 +291,7 @@ where
         let kind = copy_of(self.alloc, self.sink.content_type())?;
         let tag = copy_of(self.alloc, self.sink.etag())?;
         let changed = copy_of(self.alloc, self.sink.last_modified())?;
-        Ok(Some(PageNote {
+        Ok(Some(IndexNote {
             at: at.try_clone()?,
             len: answer.body.len,
             digest,
@@ -326,7 +330,7 @@ fn has_status(outcome: &Outcome, said: u16) -> bool
 }
 
 // Whether an answer is of this status, and its body has this digest.
-fn is_recorded(answer: &Answer<Digested<Part>>, digest: &[u8; 32], status: u16) -> bool
+fn is_recorded(answer: &Answer<Digested<KeptPart>>, digest: &[u8; 32], status: u16) -> bool
     ensures { IsTrue result → (answer.now.body.digest ≡ Some digest.now) × (has_status answer.now.outcome status ≡ true) }
 {
     match &answer.body.digest {
@@ -336,11 +340,11 @@ fn is_recorded(answer: &Answer<Digested<Part>>, digest: &[u8; 32], status: u16) 
 }
 
 // An answer whose body was read from an earlier run's file.
-fn not_received(answer: Answer<Part>) -> Answer<Part>
+fn not_received(answer: Answer<KeptPart>) -> Answer<KeptPart>
     ensures { result ≡ not_received answer }
 {
     Answer {
-        body: Part {
+        body: KeptPart {
             is_received: false,
             ..answer.body
         },
@@ -359,7 +363,7 @@ fn shared(earlier: &Option<Arc<Earlier>>) -> Option<Arc<Earlier>>
 }
 
 // The status of a kept page that can be answered again from its file.
-fn status_noted(answer: &Answer<Part>) -> Option<u16> {
+fn status_noted(answer: &Answer<KeptPart>) -> Option<u16> {
     match (&answer.outcome, answer.body.kind, answer.body.standing) {
         (_, _, Standing::Lost | Standing::Absent) => None,
         (Outcome::Page(status, _), _, _) => Some(*status),
@@ -386,7 +390,11 @@ fn keeps(rules: &Option<Arc<EarlyRules>>, page: &Address) -> bool {
 
 // Writes the bodies for whose files there was no descriptor. No connection of this worker is in use now, and those that wait are
 // ended.
-fn write_late<R: Net + Wait + Files>(rt: &R, kept: &Kept<R::Stream>, parts: &PartsDir<R::File>)
+fn write_late<R: Net + Wait + Files>(
+    rt: &R,
+    kept: &KeptConnections<R::Stream>,
+    parts: &PartsDir<R::File>,
+)
 where
     R::File: Close + Lock,
 {
@@ -400,7 +408,7 @@ impl<'a, R: Net + Wait + Clock + Eprint + Files> Fetcher for PartsOverTcp<'a, R>
 where
     R::File: Close + Lock,
 {
-    type Body = Part;
+    type Body = KeptPart;
 
     ghost Site = { PartsSite };
 
@@ -412,7 +420,7 @@ where
 
     ghost log = { λ f. f.asks };
 
-    fn ask(&mut self, at: &Address) -> Result<Answer<Part>, AllocError>
+    fn ask(&mut self, at: &Address) -> Result<Answer<KeptPart>, AllocError>
         ensures site { parts_site self.new ≡ parts_site self.old }
         ensures told { IfOk result (λ a. MayAnswerIn (parts_site self.old) at.now a.outcome a.body) }
         ensures asked { OnOk result (self.new.asks ≡ self.old.asks ++ ask.Page at.now ∷ []) }

@@ -16,7 +16,7 @@ use std::marker::Model;
 use std::net::Net;
 use std::sync::Wait;
 use std::time::{Clock, Duration};
-use tcp_connect::{Connection, Hosts, Kept, TcpConnect};
+use tcp_connect::{Connection, Hosts, KeptConnections, TcpConnect};
 
 // Makes connections over TCP for one worker, and counts what comes over them.
 #[derive(Drop)]
@@ -61,7 +61,7 @@ impl<'a, R: Net + Wait + Clock + Eprint> WatchedTcp<'a, R> {
         rt: &'a R,
         alloc: Global,
         hosts: &'a Hosts,
-        kept: &'a Kept<R::Stream>,
+        kept: &'a KeptConnections<R::Stream>,
         progress: &'a ProgressLine<'a, R>,
         most: Option<u32>,
         proxies: Proxies,

@@ -11,7 +11,7 @@ use record_journal::Saving;
 use retriever::{arguments, refuse_cookies, refuse_starts, run_program, telling_of, with_starts};
 use std::io::{IsTerminal, Write};
 use std::process::ExitCode;
-use tcp_connect::{Hosts, Kept};
+use tcp_connect::{Hosts, KeptConnections};
 
 fn main(rt: HostRuntime) -> ExitCode {
     // Before anything is opened, so that no file of the run takes the place of a stream that is closed.
@@ -88,7 +88,7 @@ fn main(rt: HostRuntime) -> ExitCode {
         let _ = output.write_all(b"stopped memory\n");
         return ExitCode::from(1);
     }
-    let kept = Kept::new(rt.alloc());
+    let kept = KeptConnections::new(rt.alloc());
     let is_shown = rt.stderr().is_terminal() && !telling.is_quiet;
     let path = telling.into_rejected();
     let Some(mut rejected) = RejectedFile::open(&rt, &rt, &failures, path, &mut output) else {

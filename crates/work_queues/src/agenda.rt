@@ -72,7 +72,7 @@ impl Agenda {
         ensures err { OnErr result (self.new.items ≡ self.old.items) }
     {
         let number = self.lists.jobs.len();
-        let host = self.lists.host_of(alloc, origin)?;
+        let host = self.lists.origin_index(alloc, origin)?;
         self.lists.reserve(host)?;
         self.lists.append(host);
         self.set(number, task, label);
@@ -137,7 +137,7 @@ impl Agenda {
         ensures len { result ≡ length self.now.waiting }
         ensures all { (number : ℕ) (item : Item) → slice_get self.now.items number ≡ Some item → is_waiting item.task ≡ true → Contains self.now.waiting item.origin }
     {
-        self.lists.waiting.len()
+        self.lists.waiting.origin_count()
     }
 
     /// A waiting number of the origin at this place.
@@ -153,7 +153,7 @@ impl Agenda {
         ensures len { result ≡ length self.now.parked }
         ensures all { (number : ℕ) (item : Item) → slice_get self.now.items number ≡ Some item → is_parked item.task ≡ true → Contains self.now.parked item.origin }
     {
-        self.lists.parked.len()
+        self.lists.parked.origin_count()
     }
 
     /// A parked number of the origin at this place.

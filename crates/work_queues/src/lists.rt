@@ -29,7 +29,11 @@ pub(crate) struct Lists {
 
 impl Lists {
     /// The place of an origin among the hosts, where it is put if it isn't there. Fails only if memory runs out.
-    pub(crate) fn host_of(&mut self, alloc: Global, origin: Origin) -> Result<usize, AllocError>
+    pub(crate) fn origin_index(
+        &mut self,
+        alloc: Global,
+        origin: Origin,
+    ) -> Result<usize, AllocError>
         requires { AreListsKept self.old }
         ensures kept { AreListsKept self.new }
         ensures items { items_of self.new ≡ items_of self.old }

@@ -101,7 +101,7 @@ impl Pool {
     }
 
     /// How many hosts have a number that is in.
-    pub(crate) fn len(&self) -> usize
+    pub(crate) fn origin_count(&self) -> usize
         requires { IsPool self.now }
         ensures { result ≡ queued_of self.now.hosts.queues.items 0 }
     {

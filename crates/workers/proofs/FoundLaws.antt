@@ -22,7 +22,7 @@ use Rattle.frontier_core.proofs.Runs.{sound_replay}
 use Rattle.harvest.specs.Entries.{Seen, seen_of, seen_in, said_by}
 use Rattle.harvest.specs.Gathered.{AreEntries}
 use Rattle.harvest.specs.Harvests.{Harvested}
-use Rattle.harvest.specs.declared.entry.Entry.{Entry}
+use Rattle.harvest.specs.declared.entry.HarvestEntry.{HarvestEntry}
 use Rattle.workers.specs.Asks.{pages_asked, origins_asked, AreOnce, AreRecorded, IsTold}
 use Rattle.workers.specs.Found.{AreMadeOnce, AreAsked, AreFound}
 use Rattle.workers.specs.Retrieval.{IsRetrieved, IsStopped}
@@ -102,7 +102,7 @@ from_map f (x ∷ xs) y among =
     ]
 
 -- an entry has the depth that the state holds of its address
-entry_depth : {B : Type 0} (plan : Plan) (h : Harvested B) → AreEntries h → IsOnce (keys h.state.entries) → IsComplete (policy plan) h.state → (e : Entry) → Contains h.entries e
+entry_depth : {B : Type 0} (plan : Plan) (h : Harvested B) → AreEntries h → IsOnce (keys h.state.entries) → IsComplete (policy plan) h.state → (e : HarvestEntry) → Contains h.entries e
     → IsDepth (policy plan) (answers h.state) e.address e.depth
 entry_depth plan h are once complete e among =
     let there = Contains-permutation (map said_by h.entries) (seen_in h.state) (said_by e) (IsPermutation-sym _ _ are.same) (to_map said_by h.entries e among) in

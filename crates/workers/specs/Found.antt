@@ -8,7 +8,7 @@ use Rattle.fetcher.specs.declared.outcome.Outcome.{Outcome}
 use Rattle.frontier_core.specs.Tables.{Text}
 use Rattle.frontier_core.specs.Routes.{Answers, IsCandidate, IsDepth, IsWanted, IsNeeded}
 use Rattle.frontier_core.specs.Plans.{policy}
-use Rattle.harvest.specs.declared.entry.Entry.{Entry}
+use Rattle.harvest.specs.declared.entry.HarvestEntry.{HarvestEntry}
 use Rattle.workers.specs.Asks.{IsTold}
 
 -- nothing is requested twice
@@ -26,6 +26,6 @@ pub record AreAsked {B : Type 0} (may_say : Text → Outcome → B → Type 0) (
   pub told : IsTold may_say may_rule m
 
 -- the entries are the addresses to which routes lead by what is recorded, each with its least depth
-pub record AreFound (plan : Plan) (m : Answers) (entries : List Entry) : Type 0 where
+pub record AreFound (plan : Plan) (m : Answers) (entries : List HarvestEntry) : Type 0 where
   pub each : All (λ entry. IsDepth (policy plan) m entry.address entry.depth) entries
   pub all : (u : Text) → IsCandidate (policy plan) m u → Any (λ entry. entry.address ≡ u) entries

@@ -11,7 +11,7 @@
 pub use crate::crew_retrieval::{Retrieved, Stopped, retrieve, retrieve_shown};
 pub use crate::quota::{NoQuota, Quota};
 pub use crate::retrieval::{Halt, retrieve_in_order};
-pub use harvest::{Entry, Harvest};
+pub use harvest::{Harvest, HarvestEntry};
 
 mod comparison;
 mod conclusion;

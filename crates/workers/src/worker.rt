@@ -10,7 +10,7 @@ use address::{Address, Origin};
 use fetcher::{Answer, Fetcher, Outcome};
 use follow_filters::Plan;
 use frontier_core::{AnswerFault, Cause, OriginPermit, Permit, SpreadFault, Work};
-use frontier_lock::{Done, FrontierLock, Held, Refused, Unanswered};
+use frontier_lock::{Done, FrontierLock, HeldPermit, Refused, Unanswered};
 use harvest::is_success;
 use robots_rules::RuleSet;
 use std::alloc::{AllocError, Global};
@@ -66,15 +66,15 @@ fn cause_of(fault: AnswerFault) -> Cause {
 }
 
 // The permit of an answer that wasn't taken.
-fn held_of(done: Done) -> Held {
+fn held_of(done: Done) -> HeldPermit {
     match done {
-        Done::Page(permit, _outcome) => Held::Page(permit),
-        Done::Rules(permit, _rules) => Held::Rules(permit),
+        Done::Page(permit, _outcome) => HeldPermit::Page(permit),
+        Done::Rules(permit, _rules) => HeldPermit::Rules(permit),
     }
 }
 
 // Stops the frontier, and the worker with it.
-fn halt<R: Wait>(rt: &R, lock: &FrontierLock<'_>, held: Option<Held>, cause: Cause) -> Work {
+fn halt<R: Wait>(rt: &R, lock: &FrontierLock<'_>, held: Option<HeldPermit>, cause: Cause) -> Work {
     lock.halt(rt, held, cause);
     Work::Stopped(cause)
 }
@@ -155,7 +155,7 @@ fn hand_over<B: Drop, Q: Quota<B>, R: Wait>(
         Ok(next) => next,
         Err(unanswered) => {
             let Unanswered { permit, fault } = unanswered;
-            let stopped = halt(rt, lock, Some(Held::Page(permit)), cause_of(fault));
+            let stopped = halt(rt, lock, Some(HeldPermit::Page(permit)), cause_of(fault));
             return (untold_page(worker, address), stopped);
         }
     };
@@ -170,7 +170,7 @@ fn hand_over<B: Drop, Q: Quota<B>, R: Wait>(
 
 // Requests the page of a permit with the lock free, hands the outcome over, and notes what was requested. Gives what the worker
 // is to do next.
-fn serve<F: Fetcher, Q: Quota<F::Body>, R: Wait>(
+fn fetch_page<F: Fetcher, Q: Quota<F::Body>, R: Wait>(
     rt: &R,
     lock: &FrontierLock<'_>,
     plan: &Plan,
@@ -183,11 +183,11 @@ fn serve<F: Fetcher, Q: Quota<F::Body>, R: Wait>(
     ensures { Goes F.Fetcher plan.now worker (fetcher.old, notes.old) (fetcher.new, notes.new) }
 {
     let Ok(address) = make_page_room(notes, permit.address()) else {
-        return halt(rt, lock, Some(Held::Page(permit)), Cause::Memory);
+        return halt(rt, lock, Some(HeldPermit::Page(permit)), Cause::Memory);
     };
     let before = fetcher.asks().len();
     let Ok(answer) = fetcher.ask(permit.address()) else {
-        let stopped = halt(rt, lock, Some(Held::Page(permit)), Cause::Memory);
+        let stopped = halt(rt, lock, Some(HeldPermit::Page(permit)), Cause::Memory);
         if fetcher.asks().len() == before {
             return stopped;
         }
@@ -225,7 +225,7 @@ fn hand_rules_over<R: Wait>(
     ensures told { IfSome result.told (λ told. told ≡ rules) }
 {
     let Ok(copy) = rules.try_clone(alloc) else {
-        lock.halt(rt, Some(Held::Rules(permit)), Cause::Memory);
+        lock.halt(rt, Some(HeldPermit::Rules(permit)), Cause::Memory);
         return untold_rules(worker, origin);
     };
     if !give(rt, lock, Done::Rules(permit, copy)) {
@@ -240,7 +240,7 @@ fn hand_rules_over<R: Wait>(
 
 // Requests the robots rules of a permit's origin with the lock free, hands them over, and notes what was requested. Whatever
 // the plan is.
-fn serve_rules<F: Fetcher, R: Wait>(
+fn fetch_robots<F: Fetcher, R: Wait>(
     rt: &R,
     alloc: Global,
     lock: &FrontierLock<'_>,
@@ -252,12 +252,12 @@ fn serve_rules<F: Fetcher, R: Wait>(
     ensures { (plan : Plan) → Goes F.Fetcher plan worker (fetcher.old, notes.old) (fetcher.new, notes.new) }
 {
     let Ok(origin) = make_rules_room(notes, permit.origin()) else {
-        lock.halt(rt, Some(Held::Rules(permit)), Cause::Memory);
+        lock.halt(rt, Some(HeldPermit::Rules(permit)), Cause::Memory);
         return;
     };
     let before = fetcher.asks().len();
     let Ok(rules) = fetcher.ask_robots(permit.origin()) else {
-        lock.halt(rt, Some(Held::Rules(permit)), Cause::Memory);
+        lock.halt(rt, Some(HeldPermit::Rules(permit)), Cause::Memory);
         if fetcher.asks().len() == before {
             return;
         }
@@ -301,10 +301,10 @@ fn work<F: Fetcher, Q: Quota<F::Body>, R: Wait>(
                 next(rt, lock, worker)
             }
             Work::Robots(permit) => {
-                serve_rules(rt, alloc, lock, worker, fetcher, notes, permit);
+                fetch_robots(rt, alloc, lock, worker, fetcher, notes, permit);
                 next(rt, lock, worker)
             }
-            Work::Page(permit) => serve(rt, lock, plan, meter, worker, fetcher, notes, permit),
+            Work::Page(permit) => fetch_page(rt, lock, plan, meter, worker, fetcher, notes, permit),
         };
     }
     unreachable!()

@@ -2,10 +2,10 @@
 use Rattle.std.specs.Prelude.{Option, Result, Ok, Err, option_map}
 use Rattle.cookie_files.specs.Lines as lines
 use Rattle.cookie_files.specs.declared.fault.CookieLineFault.{CookieLineFault}
-use Rattle.cookie_files.specs.declared.fields.Fields.{Fields}
+use Rattle.cookie_files.specs.declared.fields.CookieFields.{CookieFields}
 
 -- the fields as the definitions have them
-abbrev pub fields_value : Fields → lines.Fields
+abbrev pub fields_value : CookieFields → lines.Fields
 fields_value fields =
     record {
       domain = fields.domain.now;
@@ -18,6 +18,6 @@ fields_value fields =
     }
 
 -- and what a line says
-abbrev pub said_value : Result (Option Fields) CookieLineFault → Result (Option lines.Fields) CookieLineFault
+abbrev pub said_value : Result (Option CookieFields) CookieLineFault → Result (Option lines.Fields) CookieLineFault
 said_value (Ok said) = Ok (option_map fields_value said)
 said_value (Err why) = Err why

@@ -14,7 +14,7 @@ use crate::counters::{Counters, Share};
 use crate::event::Cause;
 use crate::progress::Progress;
 use crate::robots::Robots;
-use crate::table::Table;
+use crate::table::AddressTable;
 use address::Origin;
 use fetcher::Outcome;
 use follow_filters::Plan;
@@ -200,7 +200,13 @@ impl Board {
 }
 
 // What is listed and counted of the address of that number is what its progress says, in place of its old share.
-fn recount(entries: &Table, agenda: &mut Agenda, counters: &mut Counters, i: usize, old: Share)
+fn recount(
+    entries: &AddressTable,
+    agenda: &mut Agenda,
+    counters: &mut Counters,
+    i: usize,
+    old: Share,
+)
     requires place { i < length entries.now.entries }
     requires listed { i < length agenda.old.items }
     requires share { HasShare counters.old old }

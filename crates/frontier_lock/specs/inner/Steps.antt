@@ -5,8 +5,8 @@ use Rattle.frontier_core.specs.Traced.{Traced, Makes, IsOutTo, IsAskedBy, Stops}
 use Rattle.frontier_core.specs.declared.event.Cause.{Cause}
 use Rattle.frontier_lock.specs.declared.lock.Done.{Done}
 use Rattle.frontier_lock.specs.declared.lock.Done.TheVariants as done
-use Rattle.frontier_lock.specs.declared.lock.Held.{Held}
-use Rattle.frontier_lock.specs.declared.lock.Held.TheVariants as held
+use Rattle.frontier_lock.specs.declared.lock.HeldPermit.{HeldPermit}
+use Rattle.frontier_lock.specs.declared.lock.HeldPermit.TheVariants as held
 
 -- what was answered is recorded, for the permit's own worker
 abbrev pub Records : Traced → Done → Traced → Type 0
@@ -14,7 +14,7 @@ Records old (done.Page permit outcome) new = Makes old (Answer permit.worker per
 Records old (done.Rules permit rules) new = Makes old (Rule permit.worker permit.origin rules) new
 
 -- the permit is out no more and the frontier stops; if there is none, or a stray one, it only stops
-abbrev pub GivesPermitUp : Traced → Option Held → Cause → Traced → Type 0
+abbrev pub GivesPermitUp : Traced → Option HeldPermit → Cause → Traced → Type 0
 GivesPermitUp old None cause new = Stops old cause new
 GivesPermitUp old (Some (held.Page permit)) cause new =
     (IsOutTo old.state permit.number permit.worker permit.address → Makes old (Abandon permit.worker permit.address cause) new)

@@ -2,7 +2,7 @@
 use Rattle.std.specs.Prelude.{ℕ, Bool, false, ◌||◌, List, [], ◌∷◌, if◌then◌else◌, ◌==◌}
 use Rattle.html_links.specs.Links.{Row}
 use Rattle.html_links.specs.Asked.{asked_name}
-use Rattle.html_links.specs.declared.table.Row as declared
+use Rattle.html_links.specs.declared.table.LinkRow as declared
 use Rattle.html_links.specs.declared.asked.AskedName.{AskedName}
 
 -- a row by its names

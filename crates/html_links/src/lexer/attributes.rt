@@ -4,9 +4,11 @@ ghost use Rattle.html_links.specs.Pieces.{from, is, lower, ends_attribute_name, 
 ghost use Rattle.html_links.specs.Asked.{is_wanted, is_styling, asked_name};
 
 use crate::asked::{AskedName, Wanted};
-use crate::bytes::{Span, ends_attribute_name, ends_bare_value, is_quote, is_white, split_at_byte};
+use crate::bytes::{
+    TagSpan, ends_attribute_name, ends_bare_value, is_quote, is_white, split_at_byte,
+};
 use crate::lexer::tags::push_lower;
-use crate::lexer::{Ended, Lexer, Mode};
+use crate::lexer::{Ended, Lexer, TokenizerState};
 use crate::tag::Attribute;
 use std::alloc::AllocError;
 use std::mem;
@@ -23,16 +25,16 @@ impl Lexer {
             return self.end_tag(false);
         }
         if is_white(byte) {
-            self.mode = Mode::BeforeAttribute;
+            self.mode = TokenizerState::BeforeAttribute;
             return Ok(Ended::Nothing);
         }
         if byte == b'/' {
-            self.mode = Mode::SelfClosing;
+            self.mode = TokenizerState::SelfClosing;
             return Ok(Ended::Nothing);
         }
         self.attribute.clear();
         self.push_name(&[byte])?;
-        self.mode = Mode::AttributeName;
+        self.mode = TokenizerState::AttributeName;
         Ok(Ended::Nothing)
     }
 
@@ -53,7 +55,7 @@ impl Lexer {
             return self.after_attribute_name(byte);
         }
         self.push_name(&[byte])?;
-        self.mode = Mode::AttributeName;
+        self.mode = TokenizerState::AttributeName;
         Ok(Ended::Nothing)
     }
 
@@ -98,9 +100,9 @@ impl Lexer {
         ensures gives { IfOk result (λ left. LeavesTag (in_attribute_name self.old) text.now left.now self.new) }
         ensures shorter { IfOk result (λ left. length left.now ≤ length text.now) }
     {
-        let (name, left) = Span::AttributeName.split(text);
+        let (name, left) = TagSpan::AttributeName.split(text);
         self.push_name(name)?;
-        self.mode = Mode::AttributeName;
+        self.mode = TokenizerState::AttributeName;
         Ok(left)
     }
 
@@ -108,12 +110,12 @@ impl Lexer {
         ensures { IfOk result (λ ends. GivesTag (after_attribute_name self.old) byte ends self.new) }
     {
         if is_white(byte) {
-            self.mode = Mode::AfterAttributeName;
+            self.mode = TokenizerState::AfterAttributeName;
             return Ok(Ended::Nothing);
         }
         self.value.clear();
         if byte == b'=' {
-            self.mode = Mode::BeforeValue;
+            self.mode = TokenizerState::BeforeValue;
             return Ok(Ended::Nothing);
         }
         self.end_attribute()?;
@@ -124,12 +126,12 @@ impl Lexer {
         ensures { IfOk result (λ ends. GivesTag (before_value self.old) byte ends self.new) }
     {
         if is_white(byte) {
-            self.mode = Mode::BeforeValue;
+            self.mode = TokenizerState::BeforeValue;
             return Ok(Ended::Nothing);
         }
         self.value.clear();
         if is_quote(byte) {
-            self.mode = Mode::QuotedValue(byte);
+            self.mode = TokenizerState::QuotedValue(byte);
             return Ok(Ended::Nothing);
         }
         self.bare_value(byte)
@@ -140,11 +142,11 @@ impl Lexer {
     {
         if byte == quote {
             self.end_attribute()?;
-            self.mode = Mode::BeforeAttribute;
+            self.mode = TokenizerState::BeforeAttribute;
             return Ok(Ended::Nothing);
         }
         self.push_value(&[byte])?;
-        self.mode = Mode::QuotedValue(quote);
+        self.mode = TokenizerState::QuotedValue(quote);
         Ok(Ended::Nothing)
     }
 
@@ -158,7 +160,7 @@ impl Lexer {
     {
         let (value, left) = split_at_byte(quote, text);
         self.push_value(value)?;
-        self.mode = Mode::QuotedValue(quote);
+        self.mode = TokenizerState::QuotedValue(quote);
         Ok(left)
     }
 
@@ -170,7 +172,7 @@ impl Lexer {
             return self.before_attribute(byte);
         }
         self.push_value(&[byte])?;
-        self.mode = Mode::BareValue;
+        self.mode = TokenizerState::BareValue;
         Ok(Ended::Nothing)
     }
 
@@ -178,9 +180,9 @@ impl Lexer {
         ensures gives { IfOk result (λ left. LeavesTag (in_bare_value self.old) text.now left.now self.new) }
         ensures shorter { IfOk result (λ left. length left.now ≤ length text.now) }
     {
-        let (value, left) = Span::BareValue.split(text);
+        let (value, left) = TagSpan::BareValue.split(text);
         self.push_value(value)?;
-        self.mode = Mode::BareValue;
+        self.mode = TokenizerState::BareValue;
         Ok(left)
     }
 

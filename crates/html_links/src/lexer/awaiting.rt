@@ -6,14 +6,14 @@ ghost use Rattle.html_links.specs.Asked.{asked_name};
 ghost use Rattle.html_links.specs.Links.{kind_in};
 ghost use Rattle.html_links.specs.Lexing.{remaining};
 ghost use Rattle.html_links.specs.Awaiting.{AwaitsValue, IsUnawaited, form_in, is_kept, later_at};
-ghost use Rattle.html_links.specs.declared.lexer.Mode.TheVariants.{BeforeValue, InSheet};
+ghost use Rattle.html_links.specs.declared.lexer.TokenizerState.TheVariants.{BeforeValue, InSheet};
 
 use crate::asked::{AskedName, Wanted};
 use crate::awaiting::{ValueForm, is_base, is_decided, row_form};
 use crate::context::Syntax;
-use crate::lexer::{Ended, Lexer, Mode};
+use crate::lexer::{Ended, Lexer, TokenizerState};
 use crate::links::{LinkKind, kind_in};
-use crate::table::Form;
+use crate::table::LinkForm;
 use crate::tag::{Attribute, written};
 use std::alloc::{AllocError, Global};
 
@@ -38,7 +38,7 @@ impl Lexer {
         ensures { MatchOption result (IsUnawaited self.now) (λ attribute. AwaitsValue self.now attribute) }
     {
         match self.mode {
-            Mode::BeforeValue => self.awaited_attribute(),
+            TokenizerState::BeforeValue => self.awaited_attribute(),
             _ => None,
         }
     }
@@ -90,7 +90,7 @@ impl Lexer {
     fn kind(
         &self,
         attribute: AskedName,
-        form: Form,
+        form: LinkForm,
         text: &[u8],
     ) -> Result<Option<LinkKind>, AllocError>
         requires { is_kept self.now.wanted ≡ true }
@@ -111,7 +111,7 @@ impl Lexer {
         ensures attributes { result.attributes.items ≡ [] }
     {
         let mut lexer = Lexer::new(alloc, Syntax::Html);
-        lexer.mode = Mode::BeforeValue;
+        lexer.mode = TokenizerState::BeforeValue;
         lexer.wanted = wanted;
         lexer.keeps = Some(attribute);
         lexer.attributes = Vec::new(alloc);
@@ -141,7 +141,7 @@ impl Lexer {
     pub(crate) fn is_in_sheet(&self) -> bool
         ensures { result ≡ true ↔ (self.now.mode ≡ InSheet) }
     {
-        matches!(self.mode, Mode::InSheet)
+        matches!(self.mode, TokenizerState::InSheet)
     }
 }
 

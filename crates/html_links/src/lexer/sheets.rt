@@ -6,7 +6,7 @@ ghost use Rattle.html_links.specs.Pieces.{ends_tag_name};
 
 use crate::asked::Wanted;
 use crate::bytes::{ends_tag_name, split_at_byte};
-use crate::lexer::{Ended, Lexer, Mode};
+use crate::lexer::{Ended, Lexer, TokenizerState};
 use crate::raw_element::RawElement;
 use std::alloc::AllocError;
 use std::mem;
@@ -21,7 +21,7 @@ impl Lexer {
         ensures same { self.new ≡ record self.old { mode = self.new.mode; sheet = self.new.sheet } }
     {
         self.sheet = css_links::Scanner::new(self.alloc);
-        self.mode = Mode::InSheet;
+        self.mode = TokenizerState::InSheet;
     }
 
     /// Puts bytes to the style sheet.
@@ -52,11 +52,11 @@ impl Lexer {
         if byte == b'<' {
             self.held.clear();
             self.held.push(byte)?;
-            self.mode = Mode::SheetEnd(1);
+            self.mode = TokenizerState::SheetEnd(1);
             return Ok(Ended::Nothing);
         }
         self.put_sheet(&[byte])?;
-        self.mode = Mode::InSheet;
+        self.mode = TokenizerState::InSheet;
         Ok(Ended::Nothing)
     }
 
@@ -66,7 +66,7 @@ impl Lexer {
     {
         let (sheet, left) = split_at_byte(b'<', text);
         self.put_sheet(sheet)?;
-        self.mode = Mode::InSheet;
+        self.mode = TokenizerState::InSheet;
         Ok(left)
     }
 
@@ -84,7 +84,7 @@ impl Lexer {
             Some(expected) => {
                 if byte.to_ascii_lowercase() == *expected {
                     self.held.push(byte)?;
-                    self.mode = Mode::SheetEnd(matched + 1);
+                    self.mode = TokenizerState::SheetEnd(matched + 1);
                     Ok(Ended::Nothing)
                 } else {
                     self.sheet_again(byte)
@@ -155,11 +155,11 @@ impl Lexer {
         self.styled = false;
         self.opens = None;
         self.mode = if byte == b'>' {
-            Mode::Text
+            TokenizerState::Text
         } else if byte == b'/' {
-            Mode::SelfClosing
+            TokenizerState::SelfClosing
         } else {
-            Mode::BeforeAttribute
+            TokenizerState::BeforeAttribute
         };
     }
 

@@ -4,7 +4,7 @@ ghost use Rattle.css_links.specs.References.{Front, fed};
 ghost use Rattle.html_links.specs.References.{referenced};
 ghost use Rattle.std.specs.Char.{is_ascii_alphabetic};
 
-use crate::lexer::{Ended, Lexer, Mode, Section};
+use crate::lexer::{Ended, Lexer, Section, TokenizerState};
 use crate::value::replace_references;
 use std::alloc::AllocError;
 
@@ -84,7 +84,7 @@ impl Lexer {
         self.settle()?;
         self.name.clear();
         self.name.push(byte.to_ascii_lowercase())?;
-        self.mode = Mode::TagName;
+        self.mode = TokenizerState::TagName;
         self.end_styled()
     }
 
@@ -95,7 +95,7 @@ impl Lexer {
     {
         self.name.clear();
         self.push_end_name(&[byte])?;
-        self.mode = Mode::EndTagName;
+        self.mode = TokenizerState::EndTagName;
         self.end_styled()
     }
 

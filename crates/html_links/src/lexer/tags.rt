@@ -7,8 +7,8 @@ ghost use Rattle.html_links.specs.Lexing.{raw_name};
 ghost use Rattle.html_links.specs.declared.asked.Wanted.TheVariants as wanted;
 
 use crate::asked::Wanted;
-use crate::bytes::{Span, ends_tag_name, is_name};
-use crate::lexer::{Ended, Lexer, Mode};
+use crate::bytes::{TagSpan, ends_tag_name, is_name};
+use crate::lexer::{Ended, Lexer, TokenizerState};
 use crate::raw_element::RawElement;
 use std::alloc::AllocError;
 
@@ -36,7 +36,7 @@ impl Lexer {
             return self.before_attribute(byte);
         }
         self.name.push(byte.to_ascii_lowercase())?;
-        self.mode = Mode::TagName;
+        self.mode = TokenizerState::TagName;
         Ok(Ended::Nothing)
     }
 
@@ -74,9 +74,9 @@ impl Lexer {
         ensures gives { IfOk result (λ left. LeavesTag (in_tag_name self.old) text.now left.now self.new) }
         ensures shorter { IfOk result (λ left. length left.now ≤ length text.now) }
     {
-        let (name, left) = Span::TagName.split(text);
+        let (name, left) = TagSpan::TagName.split(text);
         push_lower(&mut self.name, name)?;
-        self.mode = Mode::TagName;
+        self.mode = TokenizerState::TagName;
         Ok(left)
     }
 
@@ -88,7 +88,7 @@ impl Lexer {
             return self.end_tag_attributes(byte);
         }
         self.push_end_name(&[byte])?;
-        self.mode = Mode::EndTagName;
+        self.mode = TokenizerState::EndTagName;
         Ok(Ended::Nothing)
     }
 
@@ -119,9 +119,9 @@ impl Lexer {
         ensures gives { IfOk result (λ left. LeavesTag (in_end_tag_name self.old) text.now left.now self.new) }
         ensures shorter { IfOk result (λ left. length left.now ≤ length text.now) }
     {
-        let (name, left) = Span::TagName.split(text);
+        let (name, left) = TagSpan::TagName.split(text);
         self.push_end_name(name)?;
-        self.mode = Mode::EndTagName;
+        self.mode = TokenizerState::EndTagName;
         Ok(left)
     }
 
@@ -178,7 +178,7 @@ impl Lexer {
             self.sheet = css_links::Scanner::new(self.alloc);
             self.held.clear();
         }
-        self.mode = Mode::Text;
+        self.mode = TokenizerState::Text;
     }
 
     /// Goes on in the text of that element.
@@ -188,10 +188,10 @@ impl Lexer {
     {
         match element {
             RawElement::Style => self.begin_sheet(),
-            RawElement::Script => self.mode = Mode::RawText(element, 0),
-            RawElement::Title => self.mode = Mode::RawText(element, 0),
-            RawElement::Textarea => self.mode = Mode::RawText(element, 0),
-            RawElement::Xmp => self.mode = Mode::RawText(element, 0),
+            RawElement::Script => self.mode = TokenizerState::RawText(element, 0),
+            RawElement::Title => self.mode = TokenizerState::RawText(element, 0),
+            RawElement::Textarea => self.mode = TokenizerState::RawText(element, 0),
+            RawElement::Xmp => self.mode = TokenizerState::RawText(element, 0),
         }
     }
 

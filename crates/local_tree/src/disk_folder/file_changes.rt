@@ -5,7 +5,7 @@ use super::{look_for_file, path_below};
 use crate::body_change::{BodyChange, ChangeFault};
 use crate::parts::write_new;
 use kept_bodies::BodyKind;
-use part_keeper::Part;
+use part_keeper::KeptPart;
 use std::alloc::Global;
 use std::fs::{File, Files, OpenFile};
 use std::io;
@@ -111,7 +111,7 @@ impl FileChange {
         own: &str,
         place: usize,
         name: &str,
-        part: &Part,
+        part: &KeptPart,
         keeps_original: bool,
     ) -> io::Result<FileChange> {
         let path = path_below(alloc, folder, name)?;

@@ -13,14 +13,14 @@ use crate::shelf::{HasKind, Shelf};
 use crate::site_files::WriteFault;
 use harvest::Harvest;
 use kept_bodies::BodyKind;
-use part_keeper::{Part, Standing, part_path};
+use part_keeper::{KeptPart, Standing, part_path};
 use std::alloc::Global;
 use std::fs::Files;
 use std::io;
 use std::io::{Error, ErrorKind};
 use streams::{Close, Lock};
 
-impl HasKind for Part {
+impl HasKind for KeptPart {
     ghost use Rattle.part_keeper.specs.Parts.{received_len};
 
     ghost kind_of = { λ part. part.kind };
@@ -44,7 +44,7 @@ where
     ghost use Rattle.std.specs.Prelude.{◌≡◌};
 
     // What is to become of the file of a part that was put.
-    fn change_of(&mut self, place: usize, name: &str, part: &Part) -> io::Result<FileChange>
+    fn change_of(&mut self, place: usize, name: &str, part: &KeptPart) -> io::Result<FileChange>
         ensures { self.new ≡ self.old }
     {
         let keeps_original = self.originals.has(name)?;
@@ -76,7 +76,7 @@ where
         &mut self,
         place: usize,
         name: &str,
-        part: &Part,
+        part: &KeptPart,
         change: &C,
     ) -> io::Result<()>
         ensures { self.new ≡ self.old }
@@ -90,7 +90,7 @@ where
         &mut self,
         place: usize,
         name: &str,
-        part: &Part,
+        part: &KeptPart,
         change: &C,
     ) -> bool
         ensures { self.new ≡ self.old }
@@ -112,7 +112,7 @@ where
         &mut self,
         place: usize,
         name: &str,
-        part: &Part,
+        part: &KeptPart,
         change: &C,
     ) -> Result<bool, FolderFault>
         ensures { CountsRefusedPut self.old.failed self.new.failed result }
@@ -132,7 +132,7 @@ where
     }
 
     // Gives the file of a part below this directory a name.
-    fn move_part(&mut self, dir: &str, name: &str, part: &Part) -> io::Result<()>
+    fn move_part(&mut self, dir: &str, name: &str, part: &KeptPart) -> io::Result<()>
         ensures { self.new ≡ self.old }
     {
         let path = find_place(
@@ -147,7 +147,7 @@ where
     }
 
     // Gives the file of a part this name.
-    fn name_part(&mut self, name: &str, part: &Part) -> io::Result<()>
+    fn name_part(&mut self, name: &str, part: &KeptPart) -> io::Result<()>
         ensures { self.new ≡ self.old }
     {
         let dir = String::from_str(self.alloc, self.parts.as_str())?;
@@ -155,7 +155,7 @@ where
     }
 
     /// Gives a whole part below this directory a name while a run goes on. Whether it has it from then on.
-    pub fn name_early(&mut self, dir: &str, name: &str, part: &Part) -> bool
+    pub fn name_early(&mut self, dir: &str, name: &str, part: &KeptPart) -> bool
         ensures { self.new ≡ self.old }
     {
         if part.standing != Standing::Whole {
@@ -169,7 +169,7 @@ where
     }
 
     /// Moves a part that was given this name early back, so that it gets another. If that fails, it is never put.
-    pub fn take_back(&mut self, name: &str, part: &Part)
+    pub fn take_back(&mut self, name: &str, part: &KeptPart)
         ensures { self.new ≡ self.old }
     {
         match self.move_back(name, part) {
@@ -180,7 +180,7 @@ where
     }
 
     /// Has a part that was given a name early never put.
-    pub fn give_up(&mut self, part: &Part)
+    pub fn give_up(&mut self, part: &KeptPart)
         ensures { self.new ≡ self.old }
     {
         if self.stuck.push(*part).is_err() {
@@ -189,7 +189,7 @@ where
     }
 
     // Moves a part that has this name to its path.
-    fn move_back(&mut self, name: &str, part: &Part) -> io::Result<()>
+    fn move_back(&mut self, name: &str, part: &KeptPart) -> io::Result<()>
         ensures { self.new ≡ self.old }
     {
         let path = find_place(
@@ -204,12 +204,12 @@ where
     }
 
     // Whether a part couldn't be moved back.
-    fn is_stuck(&self, part: &Part) -> bool {
+    fn is_stuck(&self, part: &KeptPart) -> bool {
         self.are_all_stuck || self.stuck.as_slice().iter().any(|stuck| *stuck == *part)
     }
 
     // Puts a part that was given a name early: nothing is to be done, unless it was moved back.
-    fn put_named(&mut self, name: &str, part: &Part) -> io::Result<()>
+    fn put_named(&mut self, name: &str, part: &KeptPart) -> io::Result<()>
         ensures { self.new ≡ self.old }
     {
         if self.is_stuck(part) {
@@ -226,7 +226,7 @@ where
     }
 
     // Puts a part. For one that was lost there is no file, since its keeper had an error.
-    fn put_part(&mut self, name: &str, part: &Part) -> io::Result<()>
+    fn put_part(&mut self, name: &str, part: &KeptPart) -> io::Result<()>
         ensures { self.new ≡ self.old }
     {
         match part.standing {
@@ -243,7 +243,7 @@ where
 }
 
 /// The parts are below the directory that the folder was given. Each is renamed, so putting takes no room.
-impl<'a, R: Files> Shelf<Part> for DiskFolder<'a, R>
+impl<'a, R: Files> Shelf<KeptPart> for DiskFolder<'a, R>
 where
     R::File: Close + Lock,
 {
@@ -252,7 +252,7 @@ where
     // Of what is on the disk nothing is known.
     ghost holds = { λ part body. ⊤ };
 
-    fn put_kept(&mut self, name: &str, kept: &Part) -> Result<(), FolderFault> {
+    fn put_kept(&mut self, name: &str, kept: &KeptPart) -> Result<(), FolderFault> {
         let put = self.put_part(name, kept);
         self.count(put)
     }
@@ -263,7 +263,7 @@ where
         _alloc: Global,
         place: usize,
         name: &str,
-        kept: &Part,
+        kept: &KeptPart,
         change: &C,
     ) -> Result<bool, FolderFault> {
         let put = self.put_changed(place, name, kept, change);
@@ -278,7 +278,7 @@ pub trait NamesParts {
     ghost failed: { Self → ℕ };
 
     /// Gives this name to the file of a part.
-    fn put_part(&mut self, name: &str, part: &Part) -> Result<(), FolderFault>
+    fn put_part(&mut self, name: &str, part: &KeptPart) -> Result<(), FolderFault>
         ensures { CountsRefusedPut (failed self.old) (failed self.new) result };
 
     /// The same, and then the file has what is to be in place of its body, which is that of the page at this place. Whether it does:
@@ -287,14 +287,14 @@ pub trait NamesParts {
         &mut self,
         place: usize,
         name: &str,
-        part: &Part,
+        part: &KeptPart,
         change: &C,
     ) -> Result<bool, FolderFault>
         ensures { CountsRefusedPut (failed self.old) (failed self.new) result };
 }
 
 // Puts a part. Gives how many got no name then, of which there were so many.
-fn put_one<D: NamesParts>(folder: &mut D, name: &str, part: &Part, lost: usize) -> usize
+fn put_one<D: NamesParts>(folder: &mut D, name: &str, part: &KeptPart, lost: usize) -> usize
     ensures { MakesOnePut lost (D.failed folder.old) (D.failed folder.new) result }
 {
     match folder.put_part(name, part) {
@@ -308,7 +308,7 @@ fn put_one<D: NamesParts>(folder: &mut D, name: &str, part: &Part, lost: usize) 
 pub fn put_parts<D: NamesParts>(
     folder: &mut D,
     names: &[String],
-    harvest: &Harvest<Part>,
+    harvest: &Harvest<KeptPart>,
 ) -> Result<(), WriteFault>
     requires { length names.now ≡ length harvest.now.kept }
     // As of a folder whose files aren't known.
@@ -338,7 +338,7 @@ fn put_changed_one<D: NamesParts, C: BodyChange>(
     folder: &mut D,
     place: usize,
     name: &str,
-    part: &Part,
+    part: &KeptPart,
     change: &C,
     so_far: SoFar,
 ) -> SoFar
@@ -361,7 +361,7 @@ fn put_changed_one<D: NamesParts, C: BodyChange>(
 pub fn put_changed_parts<D: NamesParts, C: BodyChange>(
     folder: &mut D,
     names: &[String],
-    harvest: &Harvest<Part>,
+    harvest: &Harvest<KeptPart>,
     change: &C,
 ) -> Result<bool, WriteFault>
     requires { length names.now ≡ length harvest.now.kept }

@@ -4,12 +4,12 @@ use Rattle.clap.specs.Walk.{Text}
 use Rattle.options.specs.declared.summary.Summary.{Summary}
 use Rattle.options.specs.declared.table.Command.{Command}
 use Rattle.options.specs.declared.table.Instead.{Instead}
-use Rattle.options.specs.declared.table.Kind.{Kind}
+use Rattle.options.specs.declared.table.OptionKind.{OptionKind}
 use Rattle.options.specs.declared.table.Row.{Row}
 use Rattle.options.specs.Table.{command_by, instead_by, kind_by, row_by, summary_by}
 
 -- what follows an option, as the code has it
-abbrev pub kind_in : Kind (Bor Text) → Kind Text
+abbrev pub kind_in : OptionKind (Bor Text) → OptionKind Text
 kind_in behind = kind_by (λ text. text.now) behind
 
 -- an option, as the code has it

@@ -3,7 +3,7 @@ use crate::growth::common::{address, plan};
 use address::Address;
 use fetcher::{Edge, EdgeKind, Edges, Outcome};
 use frontier_core::{
-    AnswerFault, Condition, Event, Frontier, OriginPermit, Permit, Rejected, RejectedRules,
+    AddressState, AnswerFault, Event, Frontier, OriginPermit, Permit, Rejected, RejectedRules,
     SpreadFault, Work,
 };
 use robots_rules::{RuleSet, parse};
@@ -212,11 +212,11 @@ fn is_spread(rt: &impl Abort, frontier: &mut Frontier) -> bool {
 }
 
 /// The word for the state of an address.
-fn word_of(condition: Condition) -> &'static str {
+fn word_of(condition: AddressState) -> &'static str {
     match condition {
-        Condition::Waiting => "waiting",
-        Condition::Answered => "answered",
-        Condition::Refused => "refused",
+        AddressState::Waiting => "waiting",
+        AddressState::Answered => "answered",
+        AddressState::Refused => "refused",
         _ => "otherwise",
     }
 }

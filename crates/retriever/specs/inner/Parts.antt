@@ -77,8 +77,8 @@ IsRead h = AreEntries h × AreRecords h × ArePages h × IfSome h.plan (λ plan.
 -- harvest that was read, or the cause for which it stopped; before either what is shown of its trace, which is nothing if a
 -- check failed
 abbrev pub IsRetrievalTold : PageNames → Bool → Result (Harvested BodyValue) (Halt BodyValue) → List ℕ → ℕ → Type 0
-IsRetrievalTold naming is_shown (Ok h) text status =
-    IsRead h × (names : List (List ℕ)) × AreNamesOf naming h.kept (kinds_of kind_in h.bodies) names × (text ≡ trace_text (shown_of is_shown h.trace) ++ report_text (harvest_lines_of h names))
+IsRetrievalTold naming with_trace (Ok h) text status =
+    IsRead h × (names : List (List ℕ)) × AreNamesOf naming h.kept (kinds_of kind_in h.bodies) names × (text ≡ trace_text (shown_of with_trace h.trace) ++ report_text (harvest_lines_of h names))
     × (status ≡ exit_status (map (λ recorded. recorded.1) h.records))
-IsRetrievalTold naming is_shown (Err halt) text status =
-    (text ≡ trace_text (shown_of (is_borne_out halt.cause && is_shown) halt.harvest.trace) ++ finish_text (Stopped halt.cause)) × (status ≡ 1)
+IsRetrievalTold naming with_trace (Err halt) text status =
+    (text ≡ trace_text (shown_of (is_borne_out halt.cause && with_trace) halt.harvest.trace) ++ finish_text (Stopped halt.cause)) × (status ≡ 1)

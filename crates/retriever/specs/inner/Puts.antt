@@ -33,8 +33,8 @@ bare_cause cause.Quota = cause.Memory
 
 -- the line of a retrieval that stopped is written, after what is shown of its trace, or without that because memory ran out
 abbrev pub IsHaltTold : {B : Type 0} → (List ℕ → ℕ → Type 0) → Bool → Halt B → Type 0
-IsHaltTold IsTold is_shown halt =
-    IsTold (trace_text (shown_of (is_borne_out halt.cause && is_shown) halt.harvest.trace) ++ finish_text (Stopped halt.cause)) 1
+IsHaltTold IsTold with_trace halt =
+    IsTold (trace_text (shown_of (is_borne_out halt.cause && with_trace) halt.harvest.trace) ++ finish_text (Stopped halt.cause)) 1
     ⊎ IsTold (finish_text (Stopped (bare_cause halt.cause))) 1
 
 -- how many files were whole when a put failed
@@ -58,24 +58,24 @@ IsPutAndTold converts keeps IsTold kept bodies (text, wanted) old new =
 
 -- the text of a harvest whose kept pages have these names
 abbrev pub harvest_text : {B : Type 0} → Bool → Harvested B → List (List ℕ) → List ℕ
-harvest_text is_shown h names = trace_text (shown_of is_shown h.trace) ++ report_text (harvest_lines_of h names)
+harvest_text with_trace h names = trace_text (shown_of with_trace h.trace) ++ report_text (harvest_lines_of h names)
 
 -- what is put and written of a harvest that was read: its kept pages and its report; or there is no memory for it, and nothing is put
 abbrev pub IsHarvestPut : {B : Type 0} → Bool → Keeping B → (List ℕ → ℕ → Type 0) → PageNames → Bool → Harvested B → Holding → Holding → Type 0
-IsHarvestPut converts keeps IsTold naming is_shown h old new =
+IsHarvestPut converts keeps IsTold naming with_trace h old new =
     ((new ≡ old) × IsTold (codes "stopped memory\n") 1)
     ⊎ (IsRead h × (names : List (List ℕ)) × AreNamesOf naming h.kept (kinds_of keeps.kind_of h.bodies) names
-    × IsPutAndTold converts keeps IsTold (kept_as_named h names) h.bodies (harvest_text is_shown h names, exit_status (map (λ recorded. recorded.1) h.records)) old new)
+    × IsPutAndTold converts keeps IsTold (kept_as_named h names) h.bodies (harvest_text with_trace h names, exit_status (map (λ recorded. recorded.1) h.records)) old new)
 
 -- what is put and written of a retrieval that stopped for this cause: if that is the quota, the same as of a harvest,
 -- and else the line of the cause
 abbrev pub IsStopPut : {B : Type 0} → Bool → Keeping B → (List ℕ → ℕ → Type 0) → PageNames → Bool → Cause → Harvested B → Holding → Holding → Type 0
-IsStopPut converts keeps IsTold naming is_shown cause.Quota h old new = IsHarvestPut converts keeps IsTold naming is_shown h old new
-IsStopPut converts keeps IsTold naming is_shown cause.Full h old new = (new ≡ old) × IsHaltTold IsTold is_shown (record { cause = cause.Full; harvest = h })
-IsStopPut converts keeps IsTold naming is_shown cause.Memory h old new = (new ≡ old) × IsHaltTold IsTold is_shown (record { cause = cause.Memory; harvest = h })
-IsStopPut converts keeps IsTold naming is_shown cause.Mismatch h old new = (new ≡ old) × IsHaltTold IsTold is_shown (record { cause = cause.Mismatch; harvest = h })
+IsStopPut converts keeps IsTold naming with_trace cause.Quota h old new = IsHarvestPut converts keeps IsTold naming with_trace h old new
+IsStopPut converts keeps IsTold naming with_trace cause.Full h old new = (new ≡ old) × IsHaltTold IsTold with_trace (record { cause = cause.Full; harvest = h })
+IsStopPut converts keeps IsTold naming with_trace cause.Memory h old new = (new ≡ old) × IsHaltTold IsTold with_trace (record { cause = cause.Memory; harvest = h })
+IsStopPut converts keeps IsTold naming with_trace cause.Mismatch h old new = (new ≡ old) × IsHaltTold IsTold with_trace (record { cause = cause.Mismatch; harvest = h })
 
 -- what is put and written of what was retrieved
 abbrev pub IsPutOf : {B : Type 0} → Bool → Keeping B → (List ℕ → ℕ → Type 0) → PageNames → Bool → Result (Harvested B) (Halt B) → Holding → Holding → Type 0
-IsPutOf converts keeps IsTold naming is_shown (Ok h) old new = IsHarvestPut converts keeps IsTold naming is_shown h old new
-IsPutOf converts keeps IsTold naming is_shown (Err halt) old new = IsStopPut converts keeps IsTold naming is_shown halt.cause halt.harvest old new
+IsPutOf converts keeps IsTold naming with_trace (Ok h) old new = IsHarvestPut converts keeps IsTold naming with_trace h old new
+IsPutOf converts keeps IsTold naming with_trace (Err halt) old new = IsStopPut converts keeps IsTold naming with_trace halt.cause halt.harvest old new

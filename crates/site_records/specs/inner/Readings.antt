@@ -16,7 +16,7 @@ use Rattle.site_inputs.specs.Names.{recorded as named, IsRecorded as IsNamed}
 use Rattle.site_records.specs.declared.entry_fault.EntryFault.{EntryFault}
 use Rattle.site_records.specs.declared.entry_fault.EntryFault.TheVariants.{Own, Hop}
 use Rattle.site_records.specs.declared.taken.Taken.{Taken}
-use Rattle.site_records.specs.declared.reading.Reading.{Reading}
+use Rattle.site_records.specs.declared.reading.RecordReading.{RecordReading}
 use Rattle.site_records.specs.EntryLines.{Statement, text_of, HopStatement, hop_text, chain, IsHopCount}
 use Rattle.site_records.specs.Entries.{Entry, lines_of, States, IsAtRoot, IsRepeated, IsEntry, IsNew, IsMisplaced, IsBadLine, IsBadAddress, IsFormed, HasHopBytes, TellsHop, IsBadHopLine, IsBadHopAddress, IsBadRow, IsBadBehind, LeadsOn}
 use Rattle.site_records.specs.Records.{answers_of, rules_of}
@@ -24,7 +24,7 @@ use Rattle.site_records.specs.WrittenEntries.{note_entry}
 use Rattle.site_records.specs.inner.RecordNotes.{AddsNote}
 
 -- the entry is kept after the others
-pub record Keeps (old : Reading) (e : Entry) (new : Reading) : Type 0 where
+pub record Keeps (old : RecordReading) (e : Entry) (new : RecordReading) : Type 0 where
   pub answers : new.answers.entries ≡ old.answers.entries ++ answers_of (e ∷ [])
   pub rules : new.rules.entries ≡ old.rules.entries ++ rules_of (e ∷ [])
   pub links : new.links ≡ old.links
@@ -34,7 +34,7 @@ pub record Keeps (old : Reading) (e : Entry) (new : Reading) : Type 0 where
   pub is_new : IsNew old.answers.entries old.rules.entries e
 
 -- the entry that the note is written as is kept after the others
-abbrev pub KeepsNote : Reading → Noted → Reading → Type 0
+abbrev pub KeepsNote : RecordReading → Noted → RecordReading → Type 0
 KeepsNote old note new = Keeps old (note_entry old.links note) new
 
 -- the text names no address, or one for which an answer is kept
@@ -62,7 +62,7 @@ NamesUnruled rules text result =
     (λ f. IsRuled rules text f)
 
 -- the line, and what follows it, are taken as this entry
-pub record Adds (old : Reading) (s : Statement) (behind : List ℕ) (after : List ℕ) (new : Reading) : Type 0 where
+pub record Adds (old : RecordReading) (s : Statement) (behind : List ℕ) (after : List ℕ) (new : RecordReading) : Type 0 where
   pub entry : Entry
   pub is_named : IsNamed (text_of s)
   pub at_root : IsAtRoot s
@@ -70,7 +70,7 @@ pub record Adds (old : Reading) (s : Statement) (behind : List ℕ) (after : Lis
   pub keeps : Keeps old entry new
 
 -- what is wrong with a line that says this
-abbrev pub IsWrong : Reading → Statement → List ℕ → InputLineFault → Type 0
+abbrev pub IsWrong : RecordReading → Statement → List ℕ → InputLineFault → Type 0
 IsWrong old s behind Line = IsNamed (text_of s) × IsMisplaced old.answers.entries old.rules.entries s behind
 IsWrong old s behind Address = ¬ IsNamed (text_of s)
 IsWrong old s behind Memory = Unit {0}
@@ -119,18 +119,18 @@ IsWrongChain of n behind (Hop k f) = IsBadRow of n behind k (IsBadHop f)
 -- ---- a line of any kind
 
 -- what is wrong with an entry whose line says this
-abbrev pub IsWrongAt : Reading → Statement → List ℕ → EntryFault → Type 0
+abbrev pub IsWrongAt : RecordReading → Statement → List ℕ → EntryFault → Type 0
 IsWrongAt old s behind (Own f) = IsWrong old s behind f
 IsWrongAt old s behind (Hop k f) =
     IsNamed (text_of s) × IsAtRoot s × ¬ IsRepeated old.answers.entries old.rules.entries s × IsBadBehind s behind k (IsBadHop f)
 
 -- the line, and what follows it, are taken as an entry of this many lines
-pub record AddsLines (old : Reading) (s : Statement) (behind : List ℕ) (taken : Taken) (new : Reading) : Type 0 where
+pub record AddsLines (old : RecordReading) (s : Statement) (behind : List ℕ) (taken : Taken) (new : RecordReading) : Type 0 where
   pub adds : Adds old s behind taken.after.now new
   pub lines : taken.lines ≡ lines_of adds.entry
 
 -- the entry of a line that says this is taken, or is refused for what is wrong with it
-abbrev pub TakesEntry : Reading → Statement → List ℕ → Result Taken EntryFault → Reading → Type 0
+abbrev pub TakesEntry : RecordReading → Statement → List ℕ → Result Taken EntryFault → RecordReading → Type 0
 TakesEntry old s behind result new = MatchResult result (λ taken. AddsLines old s behind taken new) (λ f. IsWrongAt old s behind f)
 
 -- how many lines a fault of an entry is after the entry's own line
@@ -146,7 +146,7 @@ fault_at (Hop k f) number = numbered f (number + k + 1)
 -- ---- one entry more, as bytes
 
 -- what is wrong with the entry that the text begins with
-abbrev pub IsBad : Reading → List ℕ → EntryFault → Type 0
+abbrev pub IsBad : RecordReading → List ℕ → EntryFault → Type 0
 IsBad old text (Own Line) = IsBadLine old.version old.answers.entries old.rules.entries None text
 IsBad old text (Own Address) = IsBadAddress old.version old.answers.entries old.rules.entries None text
 IsBad old text (Own Memory) = IsFormed old.version text
@@ -155,7 +155,7 @@ IsBad old text (Hop k Address) = IsBadAddress old.version old.answers.entries ol
 IsBad old text (Hop k Memory) = IsFormed old.version text
 
 -- the text begins with this entry, which is kept and has so many lines, and after follows
-pub record Reads (old : Reading) (text : List ℕ) (lines : ℕ) (after : List ℕ) (new : Reading) : Type 0 where
+pub record Reads (old : RecordReading) (text : List ℕ) (lines : ℕ) (after : List ℕ) (new : RecordReading) : Type 0 where
   pub entry : Entry
   pub is : IsEntry old.version old.links text entry after
   pub lines_are : lines ≡ lines_of entry

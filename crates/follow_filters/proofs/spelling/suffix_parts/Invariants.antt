@@ -1,5 +1,5 @@
 use Rattle.std.proofs.Common.{◌≡◌, ◌∷◌, map, take}
-use Rattle.follow_filters.specs.declared.pattern.Part.TheVariants as part
+use Rattle.follow_filters.specs.declared.pattern.PatternPart.TheVariants as part
 use Rattle.follow_filters.proofs.spelling.suffix_parts.Given as goal
 
 abbrev pub invariant-loop-byte : goal.invariant-loop-byte

@@ -2,7 +2,7 @@ use Rattle.std.proofs.Common.{rules, ◌≡◌, refl, [], ◌∷◌}
 use Rattle.std.specs.Prelude.{codes}
 use Rattle.html_links.specs.Links.{link_table, row}
 use Rattle.html_links.specs.inner.Rows.{rows_with}
-use Rattle.html_links.specs.declared.table.Form.TheVariants as form
+use Rattle.html_links.specs.declared.table.LinkForm.TheVariants as form
 use Rattle.html_links.proofs.table.rows_with.Goals as goal
 
 rows_of_i : rows_with 105 link_table

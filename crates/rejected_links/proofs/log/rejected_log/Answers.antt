@@ -4,7 +4,7 @@ use Rattle.std.specs.Prelude.{All, Contains}
 use Rattle.std.specs.List.{flat_map}
 use Rattle.std.proofs.lemmas.List.Folds.{flat_map-map}
 use Rattle.frontier_core.specs.Readers.{Recorded}
-use Rattle.harvest.specs.declared.entry.Entry.{Entry}
+use Rattle.harvest.specs.declared.entry.HarvestEntry.{HarvestEntry}
 use Rattle.rejected_links.specs.declared.rejected_link.RejectedLink.{RejectedLink}
 use Rattle.rejected_links.specs.Lines.{Rejected, line_text, header}
 use Rattle.rejected_links.specs.Rejections.{found_addresses}
@@ -27,7 +27,7 @@ returns g c =
     let plan = c.in-Some.plan.now in
     let links = c.in_ok-links.links.items in
     let same : rejected_in plan (found_addresses c.entries.result.now) c.records.result.now ≡ rejected_in plan (found_addresses h.entries) h.records =
-    ap (λ (entries : List Entry). rejected_in plan (found_addresses entries) c.records.result.now) c.entries.ensures.value
+    ap (λ (entries : List HarvestEntry). rejected_in plan (found_addresses entries) c.records.result.now) c.entries.ensures.value
     ∙ ap (λ (records : List Recorded). rejected_in plan (found_addresses h.entries) records) c.records.ensures.value in
     record {
       links = map seen links;

@@ -3,14 +3,14 @@ use Rattle.std.proofs.Common.{◌≡◌, ◌∷◌, [], ◌++◌, ℕ, List, Opt
 use Rattle.std.specs.String.{string_bytes}
 use Rattle.frontier_core.specs.Readers.{Recorded}
 use Rattle.harvest.specs.Harvests.{Harvested}
-use Rattle.harvest.specs.declared.entry.Entry.{Entry}
+use Rattle.harvest.specs.declared.entry.HarvestEntry.{HarvestEntry}
 use Rattle.report.specs.Entries.{fate_at, line_at, line_with}
 use Rattle.report.specs.Report.{Line, Fate}
 use Rattle.report.proofs.ListLaws.{given_none, given_some}
 use Rattle.report.proofs.rows.rows_of.Goals as goal
 
 -- the line of an entry by what became of it among the records
-line_by : {B : Type 0} (h : Harvested B) (names : List (List ℕ)) (records : List Recorded) (e : Entry) (fate : Option Fate) → records ≡ h.records → fate ≡ fate_at records e.refused e.answer
+line_by : {B : Type 0} (h : Harvested B) (names : List (List ℕ)) (records : List Recorded) (e : HarvestEntry) (fate : Option Fate) → records ≡ h.records → fate ≡ fate_at records e.refused e.answer
     → line_at h names e ≡ option_map (line_with h names e) fate
 line_by h names records e fate same is = ap (λ (f : Option Fate). option_map (line_with h names e) f) (sym (is ∙ ap (λ (rs : List Recorded). fate_at rs e.refused e.answer) same))
 

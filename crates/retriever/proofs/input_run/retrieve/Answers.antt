@@ -21,6 +21,6 @@ returns g c = λ told fits has.
     let by = subst (λ n. IfOk r (λ h. AreByCrew n h.trace) × IfErr r (λ halt. halt.cause ≢ why.Mismatch → AreByCrew n halt.harvest.trace)) c.in_ok-copies.ensures.count crew.numbered in
     let have = copies_kinds F told c.args.site.now c.args.order.now.workers copies c.in_ok-copies.ensures.equal has in
     let left = c.retrieve_shown-retrieved.result.1.items in
-    output_logged c.args.order.now told _ _ _ r c.log_of-rejected.result c.told_of-told.result c.log_of-rejected.ensures.log crew.ok (crew.whole_site whole fit) c.told_of-told.ensures.rejected
+    output_logged c.args.order.now told _ _ _ r c.log_of-rejected.result c.render_retrieval-told.result c.log_of-rejected.ensures.log crew.ok (crew.whole_site whole fit) c.render_retrieval-told.ensures.rejected
     (told_finishes c.args.order.now _ _ told _ r _ (crew_fits F copies left whole fit) (crew_kinds F told copies left have) crew.ok (crew.whole_site whole fit) crew.err
-    (crew.full_site whole fit) (λ one. crew.one (c.in_ok-copies.ensures.count ∙ one)) (unlimited _ r crew.quota) by c.told_of-told.ensures.told)
+    (crew.full_site whole fit) (λ one. crew.one (c.in_ok-copies.ensures.count ∙ one)) (unlimited _ r crew.quota) by c.render_retrieval-told.ensures.told)

@@ -16,12 +16,12 @@ loop-preserved-in-Spread g c = c.loop.invariant
 pub loop-preserved-in-Robots : goal.loop-preserved-in-Robots
 loop-preserved-in-Robots g c =
     let F = g.F.Fetcher in
-    goes_on F c.args.plan.now c.args.worker _ _ _ _ _ _ c.loop.invariant (c.serve_rules.ensures c.args.plan.now)
+    goes_on F c.args.plan.now c.args.worker _ _ _ _ _ _ c.loop.invariant (c.fetch_robots.ensures c.args.plan.now)
 
 pub loop-preserved : goal.loop-preserved
 loop-preserved g c =
     let F = g.F.Fetcher in
-    goes_on F c.args.plan.now c.args.worker _ _ _ _ _ _ c.loop.invariant c.serve.ensures
+    goes_on F c.args.plan.now c.args.worker _ _ _ _ _ _ c.loop.invariant c.fetch_page.ensures
 
 pub returns-in-Stopped : goal.returns-in-Stopped
 returns-in-Stopped g c = c.loop.invariant

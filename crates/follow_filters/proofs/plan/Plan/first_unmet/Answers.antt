@@ -1,5 +1,5 @@
 use Rattle.std.proofs.Common.{◌∙◌, not, sym, ap}
-use Rattle.follow_filters.specs.declared.rule.Rule.TheVariants as rule
+use Rattle.follow_filters.specs.declared.rule.FollowRule.TheVariants as rule
 use Rattle.follow_filters.specs.Rules.{meets}
 use Rattle.follow_filters.proofs.RulesLemmas.{find-here, find-later, find-end}
 use Rattle.follow_filters.proofs.plan.Plan.first_unmet.Goals as goal

@@ -1,7 +1,7 @@
 use Rattle.std.proofs.Common.{◌≡◌, [], ◌∷◌, ◌∙◌, sym, ap, ap₂, ◌++◌, refl}
 use Rattle.html_links.specs.Lexing.{in_markup, in_end_tag_name, sheet_if}
 use Rattle.html_links.specs.declared.lexer.Lexer.{Lexer}
-use Rattle.html_links.specs.declared.lexer.Mode.TheVariants.{EndTagName}
+use Rattle.html_links.specs.declared.lexer.TokenizerState.TheVariants.{EndTagName}
 use Rattle.html_links.proofs.Tagging.{styled_ended, end_tag_begun}
 use Rattle.html_links.proofs.lexer.Lexer.begin_end_tag.Goals as goal
 

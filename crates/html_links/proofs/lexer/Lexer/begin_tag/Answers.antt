@@ -1,7 +1,7 @@
 use Rattle.std.proofs.Common.{◌≡◌, [], ◌∷◌, ◌∙◌, sym, ap, ◌++◌}
 use Rattle.html_links.specs.Lexing.{in_text, in_tag_name, sheet_if}
 use Rattle.html_links.specs.declared.lexer.Lexer.{Lexer}
-use Rattle.html_links.specs.declared.lexer.Mode.TheVariants.{TagName}
+use Rattle.html_links.specs.declared.lexer.TokenizerState.TheVariants.{TagName}
 use Rattle.html_links.proofs.Tagging.{styled_ended, start_tag_begun}
 use Rattle.html_links.proofs.lexer.Lexer.begin_tag.Goals as goal
 

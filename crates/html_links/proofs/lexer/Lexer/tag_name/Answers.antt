@@ -1,5 +1,5 @@
 use Rattle.std.proofs.Common.{◌∷◌, sym, ◌∙◌, refl}
-use Rattle.html_links.specs.declared.lexer.Mode.TheVariants.{TagName}
+use Rattle.html_links.specs.declared.lexer.TokenizerState.TheVariants.{TagName}
 use Rattle.html_links.specs.Lexing.{in_tag_name, before_attribute}
 use Rattle.html_links.proofs.Tagging.{handed, tag_name_ended, tag_name_goes_on}
 use Rattle.html_links.proofs.lexer.Lexer.tag_name.Goals as goal

@@ -28,7 +28,7 @@ returns-in_err-origin g c =
 pub returns-in_err-told : goal.returns-in_err-told
 returns-in_err-told g c =
     let p = err_from_is_err_and c.from_residual-in_err-told.result c.from_residual-in_err-told.ensures.1 in
-    let after = c.ask_again.ensures in
+    let after = c.exchange_on_kept.ensures in
     rw p.1 (record {
       asks = after.asks;
       links = after.links;
@@ -63,9 +63,9 @@ pub returns : goal.returns
 returns g c =
     let old = c.args.self.now in
     let before = c.in_ok-told.ensures in
-    let mid = c.ask_again.new.self in
-    let after = c.ask_anew.ensures in
-    let new = c.ask_anew.new.self in
+    let mid = c.exchange_on_kept.new.self in
+    let after = c.exchange_on_new.ensures in
+    let new = c.exchange_on_new.new.self in
     record {
       asks = after.asks ∙ before.asks;
       links = after.links ∙ before.links;
@@ -73,9 +73,9 @@ returns g c =
       sends = after.sends ∙ before.sends;
       is_recording = after.is_recording ∙ before.is_recording;
       notes = after.notes ∙ before.notes;
-      one = λ none. subst (λ n. OnOk c.ask_anew.result (g.C.Connect.made new.connect ≡ counted n 1)) before.made after.one;
+      one = λ none. subst (λ n. OnOk c.exchange_on_new.result (g.C.Connect.made new.connect ≡ counted n 1)) before.made after.one;
       most = subst (λ n. g.C.Connect.made new.connect ≤ n + 1) before.made after.most;
-      told = if_ok_on c.ask_anew.result _ _ _ after.one after.told
+      told = if_ok_on c.exchange_on_new.result _ _ _ after.one after.told
           (λ one t told. subst (λ b. IsToldByTries g.C.Connect g.C.Wire.Wire standard old new c.args.at.now (answer_told b c.args.at.now t)) before.links
           (told_second g.C.Connect g.C.Wire.Wire standard old mid new c.args.at.now (answer_told mid.links c.args.at.now t) before.made before.refused before.links before.keeps before.sends
           (rw c.in-None.is at before.gives) (rw c.in-None.is at before.silent) after.taken one told));

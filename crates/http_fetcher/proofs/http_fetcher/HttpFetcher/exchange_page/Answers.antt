@@ -43,16 +43,16 @@ returns-in-Some g c =
       most = none_made _ _ after.made;
       told = (told.0, told.1, inl told.2);
       stands = after.stands;
-      may = (told.0, told.1, may_answer g.C.Connect g.C.Wire.Wire (limited c.args.limits) c.args.self.now c.ask_page_again.new.self c.args.at.now told.0 (inl told.2));
+      may = (told.0, told.1, may_answer g.C.Connect g.C.Wire.Wire (limited c.args.limits) c.args.self.now c.exchange_page_on_kept.new.self c.args.at.now told.0 (inl told.2));
     }
 
 pub returns : goal.returns
 returns g c =
     let old = c.args.self.now in
     let before = c.in_ok-answer.ensures in
-    let mid = c.ask_page_again.new.self in
-    let after = c.ask_page_anew.ensures in
-    let new = c.ask_page_anew.new.self in
+    let mid = c.exchange_page_on_kept.new.self in
+    let after = c.exchange_page_on_new.ensures in
+    let new = c.exchange_page_on_new.new.self in
     record {
       asks = after.asks ∙ before.asks;
       links = after.links ∙ before.links;
@@ -61,14 +61,14 @@ returns g c =
       is_recording = after.is_recording ∙ before.is_recording;
       notes = after.notes ∙ before.notes;
       most = subst (λ n. g.C.Connect.made new.connect ≤ n + 1) before.made after.most;
-      one = λ none. subst (λ n. OnOk c.ask_page_anew.result (g.C.Connect.made new.connect ≡ counted n 1)) before.made after.one;
-      told = if_ok_on c.ask_page_anew.result _ _ _ after.one after.told (λ one a told. (
+      one = λ none. subst (λ n. OnOk c.exchange_page_on_new.result (g.C.Connect.made new.connect ≡ counted n 1)) before.made after.one;
+      told = if_ok_on c.exchange_page_on_new.result _ _ _ after.one after.told (λ one a told. (
         told.0,
         told.1,
         told_second g.C.Connect g.C.Wire.Wire (limited c.args.limits) old mid new c.args.at.now told.0 before.made before.refused before.links before.keeps before.sends
             (rw c.in-None.is at before.gives) (rw c.in-None.is at before.silent) after.taken one told.2,
       ));
       stands = stands_twice g.C.Connect g.C.Wire.Wire (limited c.args.limits) old mid new c.args.at.now before.links before.keeps before.sends before.stands after.stands;
-      may = if_ok_map c.ask_page_anew.result _ _ after.told (λ a told.
+      may = if_ok_map c.exchange_page_on_new.result _ _ after.told (λ a told.
           (told.0, told.1, subst (λ b. MayAnswerWithin (limited c.args.limits) b c.args.at.now told.0.outcome told.0.body) before.links (may_answer_anew g.C.Connect g.C.Wire.Wire (limited c.args.limits) mid new c.args.at.now told.0 told.2)));
     }

@@ -1,0 +1,8 @@
+-- A fault line states an answer.
+use Rattle.site_maps.proofs.ReadingLaws.{takes_fault}
+use Rattle.site_maps.proofs.reading.MapReading.add_fault.Goals as goal
+
+pub returns : goal.returns
+returns c =
+    takes_fault c.args.self.now c.add_answer.new.self c.add_answer.result c.args.kind c.args.text.now
+    c.in_ok-address.address c.in_ok-address.ensures c.add_answer.ensures
