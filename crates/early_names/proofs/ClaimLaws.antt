@@ -1,21 +1,20 @@
 -- What the table of claims says of names.
-use Rattle.std.proofs.Common.{◌≡◌, ℕ, ◌+◌, ◌<◌, Bool, true, false, ◌||◌, cond, List, [], ◌∷◌, ◌++◌, map, length, take, drop, get_or, Option, Some, None, is_some, Vec, sym, refl, ap, ◌∙◌, subst, inl, inr, arith}
+use Rattle.std.proofs.Common.{◌≡◌, ◌↔◌, ◌⊎◌, ℕ, suc, ◌+◌, ◌-◌, ◌<◌, Bool, true, false, IsTrue, ◌||◌, cond, List, [], ◌∷◌, ◌++◌, map, length, take, drop, get_or, Option, Some, None, is_some, String, sym, refl, ap, ◌∙◌, subst, inl, inr, lit<, arith}
 use Rattle.std.proofs.lemmas.Bool.{cases_lt, cases_Bool, cond-true, cond-false, both_ways, false_from_ne_true, or_right}
-use Rattle.std.proofs.lemmas.Cmp.{nat_list_eq_equiv, nat_list_cmp_total}
-use Rattle.std.proofs.lemmas.List.{take-append-drop, drop_more, get_or_at, length-append}
-use Rattle.std.proofs.lemmas.Map.Text.{is_eq-slice_cmp}
+use Rattle.std.proofs.lemmas.Cmp.{nat_list_eq_equiv}
+use Rattle.std.proofs.lemmas.List.{take-append-drop, take-take, drop_more, get_or_at, get_or-take, get_or-append-add, length-append, append_assoc}
 use Rattle.std.proofs.lemmas.Slice.Eq.{bytes_eq-Decides}
+use Rattle.std.proofs.lemmas.Str.Pattern.{NoCharPasses-char, drop_at_char}
 use Rattle.std.proofs.Math.Seq.{take-append_seam}
-use Rattle.std.specs.BTreeMap.{BTreeMap, UpdatesBy, is_at}
-use Rattle.std.specs.Cmp.{eq_by_cmp_equiv}
-use Rattle.std.specs.Cmp.Lexicographic.{slice_cmp}
 use Rattle.std.specs.Map.{lookup, IsKeyTest, AreApart, KeepsOthers}
-use Rattle.std.specs.Ordering.{is_eq, nat_cmp}
 use Rattle.std.specs.Str.{bytes_eq}
+use Rattle.std.specs.Str.Pattern.{RFindsChar, SplitsAroundMatch}
+use Rattle.std.specs.String.{string_bytes, string_eq}
+use Rattle.indexmap.specs.IndexMap.{IndexMap, Updates}
 use Rattle.local_names.specs.PlainNames.{slash}
 use Rattle.local_names.specs.Names.{IsDirectoryOf}
 use Rattle.early_names.specs.Claims.{ClaimsValue, IsClear, is_name, is_claimed}
-use Rattle.early_names.specs.inner.Entries.{entry_of, table_of, IsUnmarked, MarksSome, IsAdded, IsTable}
+use Rattle.early_names.specs.inner.Entries.{entry_of, table_of, HasClaimedAbove, IsLongestDirectory, IsUnmarked, IsAdded, IsTable, MarksAll, MarksSome}
 
 -- ---- directories
 
@@ -36,33 +35,117 @@ directory_place name directory (rest, e) = (
 pub not_own : (name : List ℕ) → IsDirectoryOf name name → ⊥
 not_own name dir = let place = (directory_place name name dir).0 in absurd (omega arith)
 
+-- a directory of a directory
+pub directory_above : (name below above : List ℕ) → IsDirectoryOf name below → IsDirectoryOf below above → IsDirectoryOf name above
+directory_above name below above (rest, e) (between, f) =
+    (between ++ slash ∷ rest, e ∙ ap (λ l. l ++ slash ∷ rest) f ∙ append_assoc above (slash ∷ between) (slash ∷ rest))
+
+-- what is before the last slash is the longest directory
+longest : (name front back : List ℕ) → name ≡ front ++ slash ∷ back → ((i : ℕ) → i < length back → get_or back i 0 ≡ slash → ⊥) → IsLongestDirectory name front
+longest name front back e none = record {
+  is = (back, e);
+  others = others;
+  shorter = let long = length-append front (slash ∷ back) in let same = ap length e in omega arith;
+}
+  where
+    before : take (length front) name ≡ front
+    before = ap (take (length front)) e ∙ take-append_seam front (slash ∷ back)
+
+    past : (q : List ℕ) (k : ℕ) → length q ≡ length front + suc k → length q < length name → get_or name (length q) 0 ≡ slash → ⊥
+    past q k far below at =
+        none k (let long = length-append front (slash ∷ back) in let same = ap length e in omega (arith, far, below))
+        (sym (get_or-append-add front (slash ∷ back) (suc k) 0) ∙ ap (λ n. get_or (front ++ slash ∷ back) n 0) (sym far) ∙ ap (λ l. get_or l (length q) 0) (sym e) ∙ at)
+
+    others : (q : List ℕ) → IsDirectoryOf name q → (q ≡ front) ⊎ IsDirectoryOf front q
+    others q dir =
+        let place = directory_place name q dir in
+        elim (cases_lt (length q) (length front)) [
+          | inl less ↦
+              (let at : get_or front (length q) 0 ≡ slash = ap (λ l. get_or l (length q) 0) (sym before) ∙ get_or-take (length front) name (length q) 0 less ∙ place.1 in
+              let cut : take (length q) front ≡ q = ap (take (length q)) (sym before) ∙ take-take (length q) (length front) name (omega (arith, less)) ∙ place.2 in
+              inr (subst (IsDirectoryOf front) cut (directory_at front (length q) less at)))
+          | inr most ↦ elim (cases_lt (length front) (length q)) [
+            | inl more ↦ absurd (past q (length q - (length front + 1)) (omega (arith, more)) place.0 place.1)
+            | inr least ↦ (let same : length q ≡ length front = omega (arith, most, least) in inl (sym place.2 ∙ ap (λ n. take n name) same ∙ before))
+          ]
+        ]
+
+-- a text that is split at its last slash
+pub directory_found : (name front back : List ℕ) → SplitsAroundMatch (RFindsChar 47) name front back → IsLongestDirectory name front
+directory_found name front back h =
+    let whole : name ≡ front ++ slash ∷ back
+    = sym (take-append-drop h.0 name) ∙ ap (λ l. take h.0 name ++ l) (drop_at_char 47 name h.0 h.1 h.2.1 (lit< tt)) ∙ ap (λ l. l ++ slash ∷ drop h.1 name) (sym h.3) ∙ ap (λ l. front ++ slash ∷ l) (sym h.4) in
+    longest name front back whole (λ k below e. NoCharPasses-char 47 (drop h.1 name) k h.2.0 (lit< tt) (subst (λ l. k < length l) h.4 below) (ap (λ l. get_or l k 0) (sym h.4) ∙ e))
+
+-- a text without a slash
+pub no_directory : (name : List ℕ) → RFindsChar 47 name None → (q : List ℕ) → IsDirectoryOf name q → ⊥
+no_directory name none q dir = let place = directory_place name q dir in NoCharPasses-char 47 name (length q) none (lit< tt) place.0 place.1
+
+-- ---- directories that are read or marked one after another, the longest first
+
+-- all directories of the name but those of what is left have the property
+abbrev pub IsLeft : (List ℕ → Type 0) → List ℕ → List ℕ → Type 0
+IsLeft P name rest = ((q : List ℕ) → IsDirectoryOf name q → P q ⊎ IsDirectoryOf rest q) × ((q : List ℕ) → IsDirectoryOf rest q → IsDirectoryOf name q)
+
+pub left_first : (P : List ℕ → Type 0) (name : List ℕ) → IsLeft P name name
+left_first P name = (λ q dir. inr dir, λ q dir. dir)
+
+pub left_next : (P : List ℕ → Type 0) (name rest directory : List ℕ) → IsLeft P name rest → IsLongestDirectory rest directory → P directory → IsLeft P name directory
+left_next P name rest directory left is here = (
+  λ q dir. elim (left.0 q dir) [
+    | inl has ↦ inl has
+    | inr there ↦ elim (is.others q there) [
+      | inl same ↦ inl (subst P (sym same) here)
+      | inr above ↦ inr above
+    ]
+  ],
+  λ q dir. left.1 q (directory_above rest directory q is.is dir),
+)
+
+pub left_still : (P Q : List ℕ → Type 0) (name rest : List ℕ) → ((q : List ℕ) → P q → Q q) → IsLeft P name rest → IsLeft Q name rest
+left_still P Q name rest still left = (
+  λ q dir. elim (left.0 q dir) [
+    | inl has ↦ inl (still q has)
+    | inr there ↦ inr there
+  ],
+  left.1,
+)
+
+pub left_last : (P : List ℕ → Type 0) (name rest : List ℕ) → IsLeft P name rest → ((q : List ℕ) → IsDirectoryOf rest q → P q) → (q : List ℕ) → IsDirectoryOf name q → P q
+left_last P name rest left all q dir =
+    elim (left.0 q dir) [
+      | inl has ↦ has
+      | inr there ↦ all q there
+    ]
+
+-- the longest directory that has an entry is marked
+pub left_marked : (P : List ℕ → Type 0) (name rest directory : List ℕ) → IsLeft P name rest → IsLongestDirectory rest directory → P directory → ((q : List ℕ) → IsDirectoryOf directory q → P q)
+    → (q : List ℕ) → IsDirectoryOf name q → P q
+left_marked P name rest directory left is here above = left_last P name directory (left_next P name rest directory left is here) above
+
 -- ---- the map
 
 apart : (bs cs ks : List ℕ) → bytes_eq bs cs ≡ false → bytes_eq bs ks ≡ true → bytes_eq cs ks ≡ false
 apart bs cs ks n y = nat_list_eq_equiv.symm cs ks ∙ sym (nat_list_eq_equiv.congr bs ks cs y) ∙ n
-
-apart_in_order : (bs cs ks : List ℕ) → bytes_eq bs cs ≡ false → is_eq (slice_cmp nat_cmp bs ks) ≡ true → is_eq (slice_cmp nat_cmp cs ks) ≡ false
-apart_in_order bs cs ks n y = is_eq-slice_cmp cs ks ∙ apart bs cs ks n (sym (is_eq-slice_cmp bs ks) ∙ y)
 
 other_entries : {K X : Type 0} (eq : K → K → Bool) (test : K → Bool) (old new : List (K × X)) → KeepsOthers eq test old new → (other : K → Bool) → IsKeyTest eq other → AreApart test other → lookup other new ≡ lookup other old
 unfolding KeepsOthers
 other_entries eq test old new h = h
 
 -- an insertion, by the bytes of its key
-pub updated : {Y : Type 0} (bs : List ℕ) (m n : BTreeMap (Vec ℕ Y) Bool) (w : Option Bool) → UpdatesBy (λ x y. slice_cmp nat_cmp x.items y.items) (λ k. slice_cmp nat_cmp bs k.items) m n w
-    → (cs : List ℕ) → entry_of n cs ≡ cond (bytes_eq bs cs) w (entry_of m cs)
-updated bs m n w h cs =
-    elim (cases_Bool (bytes_eq bs cs)) [
-      | inl y ↦ subst (λ l. entry_of n l ≡ w) ((bytes_eq-Decides bs cs).0 y) h.1 ∙ sym (cond-true (bytes_eq bs cs) w (entry_of m cs) y)
-      | inr e ↦ other_entries _ _ _ _ h.3 _ (λ x y. (eq_by_cmp_equiv nat_list_cmp_total).congr cs x.items y.items) (λ k. apart_in_order bs cs k.items e) ∙ sym (cond-false (bytes_eq bs cs) w (entry_of m cs) e)
+pub updated : {Y S : Type 0} (key : String Y) (m n : IndexMap (String Y) Bool S) (w : Option Bool) → Updates string_eq m n key w
+    → (cs : List ℕ) → entry_of n cs ≡ cond (bytes_eq (string_bytes key) cs) w (entry_of m cs)
+updated key m n w h cs =
+    elim (cases_Bool (bytes_eq (string_bytes key) cs)) [
+      | inl y ↦ subst (λ l. entry_of n l ≡ w) ((bytes_eq-Decides (string_bytes key) cs).0 y) h.1 ∙ sym (cond-true (bytes_eq (string_bytes key) cs) w (entry_of m cs) y)
+      | inr e ↦ other_entries _ _ _ _ h.3 _ (λ x y. nat_list_eq_equiv.congr cs (string_bytes x) (string_bytes y)) (λ k. apart (string_bytes key) cs (string_bytes k) e)
+          ∙ sym (cond-false (bytes_eq (string_bytes key) cs) w (entry_of m cs) e)
     ]
 
 -- the entry of a name, as a contract sees it
-pub entry_same : {Y : Type 0} (name : List ℕ) (es : List (Vec ℕ Y × Bool)) → lookup (bytes_eq name) (map (λ entry. (entry.0.items, entry.1)) es) ≡ lookup (is_at (λ key. slice_cmp nat_cmp name key.items)) es
+pub entry_same : {Y : Type 0} (name : List ℕ) (es : List (String Y × Bool)) → lookup (bytes_eq name) (map (λ entry. (string_bytes entry.0, entry.1)) es) ≡ lookup (λ key. bytes_eq name (string_bytes key)) es
 entry_same name [] = refl
-entry_same name (e ∷ es) =
-    ap (λ b. cond b (Some e.1) (lookup (bytes_eq name) (map (λ entry. (entry.0.items, entry.1)) es))) (sym (is_eq-slice_cmp name e.0.items))
-    ∙ ap (λ o. cond (is_eq (slice_cmp nat_cmp name e.0.items)) (Some e.1) o) (entry_same name es)
+entry_same name (e ∷ es) = ap (λ o. cond (bytes_eq name (string_bytes e.0)) (Some e.1) o) (entry_same name es)
 
 -- ---- entries
 
@@ -189,38 +272,67 @@ added_table c old new name table free added = record {
       ]
     ]
 
--- ---- directories that are marked one after another
+-- ---- what the longest directory with an entry tells
+
+pub found_tells : (entry : List ℕ → Option Bool) (name rest directory : List ℕ) (is : Bool) → MarksAll entry → IsLeft (λ q. is_name (entry q) ≡ false) name rest → IsLongestDirectory rest directory → entry directory ≡ Some is
+    → IsTrue is ↔ HasClaimedAbove entry name
+found_tells entry name rest directory true all left longest found = (λ _. (directory, left.1 directory longest.is, ap is_name found), λ _. refl)
+found_tells entry name rest directory false all left longest found = (
+  λ e. cc,
+  λ claimed.
+      let free = left_marked (λ q. is_name (entry q) ≡ false) name rest directory left longest (ap is_name found) (λ q dir. ap is_name (all directory q dir found)) claimed.0 claimed.1 in
+      absurd (both_ways (is_name (entry claimed.0)) free claimed.2),
+)
+
+-- ---- directories that get their entries
+
+-- what is above a marked directory is marked, as long as no claim failed
+pub marks_all : (entry : List ℕ → Option Bool) → IsTable false entry → MarksAll entry
+marks_all entry table below above dir e =
+    let found = table.needed refl below e in table.marked found.0 above (directory_above found.0 below above found.1 dir) found.2
+
+still_marked : (mid new : List ℕ → Option Bool) (directory : List ℕ) → ((q : List ℕ) → new q ≡ cond (bytes_eq directory q) (Some false) (mid q)) → (q : List ℕ) → mid q ≡ Some false → new q ≡ Some false
+still_marked mid new directory put q was =
+    elim (cases_Bool (bytes_eq directory q)) [
+      | inl y ↦ put q ∙ cond-true (bytes_eq directory q) (Some false) (mid q) y
+      | inr n ↦ put q ∙ cond-false (bytes_eq directory q) (Some false) (mid q) n ∙ was
+    ]
+
+-- what marks the directories of a name keeps, while those of what is left have their old entries
+pub record IsMarking (old mid : List ℕ → Option Bool) (name rest : List ℕ) : Type 0 where
+  pub some : MarksSome old mid name
+  pub left : IsLeft (λ q. mid q ≡ Some false) name rest
+  pub same : (q : List ℕ) → IsDirectoryOf rest q → mid q ≡ old q
+
+pub marking_first : (old : List ℕ → Option Bool) (name : List ℕ) → IsMarking old old name name
+marking_first old name = record {
+  some = λ q. inl refl;
+  left = left_first (λ q. old q ≡ Some false) name;
+  same = λ q dir. refl;
+}
 
 -- one more entry of a directory
-pub marks_more : (old mid new : List ℕ → Option Bool) (name : List ℕ) (i : ℕ) → i < length name → get_or name i 0 ≡ slash → MarksSome old mid name
-    → ((q : List ℕ) → new q ≡ cond (bytes_eq (take i name) q) (Some false) (mid q)) → MarksSome old new name
-marks_more old mid new name i below e marks put q =
-    elim (cases_Bool (bytes_eq (take i name) q)) [
-      | inl y ↦ inr (subst (IsDirectoryOf name) ((bytes_eq-Decides (take i name) q).0 y) (directory_at name i below e), put q ∙ cond-true (bytes_eq (take i name) q) (Some false) (mid q) y)
-      | inr n ↦ elim (marks q) [
-        | inl same ↦ inl (put q ∙ cond-false (bytes_eq (take i name) q) (Some false) (mid q) n ∙ same)
-        | inr there ↦ inr (there.0, put q ∙ cond-false (bytes_eq (take i name) q) (Some false) (mid q) n ∙ there.1)
-      ]
+pub marking_next : (old mid new : List ℕ → Option Bool) (name rest directory : List ℕ) → IsMarking old mid name rest → IsLongestDirectory rest directory
+    → ((q : List ℕ) → new q ≡ cond (bytes_eq directory q) (Some false) (mid q)) → IsMarking old new name directory
+marking_next old mid new name rest directory marking is put = record {
+  some = λ q. elim (cases_Bool (bytes_eq directory q)) [
+    | inl y ↦ inr (subst (IsDirectoryOf name) ((bytes_eq-Decides directory q).0 y) (marking.left.1 directory is.is), put q ∙ cond-true (bytes_eq directory q) (Some false) (mid q) y)
+    | inr n ↦ elim (marking.some q) [
+      | inl same ↦ inl (put q ∙ cond-false (bytes_eq directory q) (Some false) (mid q) n ∙ same)
+      | inr there ↦ inr (there.0, put q ∙ cond-false (bytes_eq directory q) (Some false) (mid q) n ∙ there.1)
     ]
+  ];
+  left = left_next (λ q. new q ≡ Some false) name rest directory (left_still (λ q. mid q ≡ Some false) (λ q. new q ≡ Some false) name rest (still_marked mid new directory put) marking.left) is
+      (put directory ∙ cond-true (bytes_eq directory directory) (Some false) (mid directory) ((bytes_eq-Decides directory directory).1 refl));
+  same = λ q dir. put q ∙ cond-false (bytes_eq directory q) (Some false) (mid q) (directory_apart directory q dir) ∙ marking.same q (directory_above rest directory q is.is dir);
+}
 
-pub all_more : (mid new : List ℕ → Option Bool) (name : List ℕ) (i : ℕ) → ((k : ℕ) → k < i → get_or name k 0 ≡ slash → mid (take k name) ≡ Some false)
-    → ((q : List ℕ) → new q ≡ cond (bytes_eq (take i name) q) (Some false) (mid q)) → (k : ℕ) → k < i + 1 → get_or name k 0 ≡ slash → new (take k name) ≡ Some false
-all_more mid new name i all put k below e =
-    elim (cases_Bool (bytes_eq (take i name) (take k name))) [
-      | inl y ↦ put (take k name) ∙ cond-true (bytes_eq (take i name) (take k name)) (Some false) (mid (take k name)) y
-      | inr n ↦ elim (cases_lt k i) [
-        | inl less ↦ put (take k name) ∙ cond-false (bytes_eq (take i name) (take k name)) (Some false) (mid (take k name)) n ∙ all k less e
-        | inr last ↦ (let same : i ≡ k = omega (arith, last, below) in absurd (both_ways (bytes_eq (take i name) (take k name)) n ((bytes_eq-Decides (take i name) (take k name)).1 (ap (λ j. take j name) same))))
-      ]
-    ]
-
--- no slash there
-pub all_still : (P : ℕ → Type 0) (name : List ℕ) (i : ℕ) → ((k : ℕ) → k < i → get_or name k 0 ≡ slash → P k) → (get_or name i 0 ≡ slash → ⊥) → (k : ℕ) → k < i + 1 → get_or name k 0 ≡ slash → P k
-all_still P name i all none k below e =
-    elim (cases_lt k i) [
-      | inl less ↦ all k less e
-      | inr last ↦ (let same : k ≡ i = omega (arith, last, below) in absurd (none (subst (λ j. get_or name j 0 ≡ slash) same e)))
-    ]
+-- a directory that was marked
+pub marking_met : (old mid : List ℕ → Option Bool) (name rest directory : List ℕ) → MarksAll old → IsMarking old mid name rest → IsLongestDirectory rest directory → mid directory ≡ Some false
+    → (q : List ℕ) → IsDirectoryOf name q → mid q ≡ Some false
+marking_met old mid name rest directory all marking is here =
+    left_marked (λ q. mid q ≡ Some false) name rest directory marking.left is here
+    (λ q dir. marking.same q (directory_above rest directory q is.is dir) ∙ all directory q dir (sym (marking.same directory is.is) ∙ here))
 
 pub added_from : (old mid new : List ℕ → Option Bool) (name : List ℕ) → MarksSome old mid name → ((q : List ℕ) → IsDirectoryOf name q → mid q ≡ Some false)
     → ((q : List ℕ) → new q ≡ cond (bytes_eq name q) (Some true) (mid q)) → IsAdded old new name
@@ -242,7 +354,7 @@ marks_same old mid new name marks put q =
 
 -- ---- the same as contracts see it
 
-module _ {Y : Type 0} (v : ClaimsValue) (m : BTreeMap (Vec ℕ Y) Bool) (c : Bool) (same : v ≡ record { table = table_of m; is_closed = c }) where
+module _ {Y S : Type 0} (v : ClaimsValue) (m : IndexMap (String Y) Bool S) (c : Bool) (same : v ≡ record { table = table_of m; is_closed = c }) where
   seen : (q : List ℕ) → is_claimed v q ≡ is_name (entry_of m q)
   seen q = ap (λ x. is_claimed x q) same ∙ ap is_name (entry_same q m.entries)
 
@@ -258,12 +370,12 @@ module _ {Y : Type 0} (v : ClaimsValue) (m : BTreeMap (Vec ℕ Y) Bool) (c : Boo
       unmarked (entry_of m) name (subst (λ b. IsTable b (entry_of m)) (sym (ap (λ x. x.is_closed) same) ∙ usable) table)
       (sym (seen name) ∙ clear.new) (λ d dir. sym (seen d) ∙ clear.above d dir) (λ o dir. sym (seen o) ∙ clear.below o dir)
 
-  pub added_seen : (n : BTreeMap (Vec ℕ Y) Bool) (name : List ℕ) → IsUnmarked (entry_of m) name → IsAdded (entry_of m) (entry_of n) name
+  pub added_seen : (n : IndexMap (String Y) Bool S) (name : List ℕ) → IsUnmarked (entry_of m) name → IsAdded (entry_of m) (entry_of n) name
       → (q : List ℕ) → is_name (lookup (bytes_eq q) (table_of n)) ≡ (is_claimed v q || bytes_eq name q)
   added_seen n name free added q =
       ap is_name (entry_same q n.entries) ∙ added_has (entry_of m) (entry_of n) name free added q ∙ ap (λ b. b || bytes_eq name q) (sym (seen q))
 
-  pub marked_seen : (n : BTreeMap (Vec ℕ Y) Bool) (name : List ℕ) → IsUnmarked (entry_of m) name → MarksSome (entry_of m) (entry_of n) name
+  pub marked_seen : (n : IndexMap (String Y) Bool S) (name : List ℕ) → IsUnmarked (entry_of m) name → MarksSome (entry_of m) (entry_of n) name
       → (q : List ℕ) → is_name (lookup (bytes_eq q) (table_of n)) ≡ is_claimed v q
   marked_seen n name free marks q =
       ap is_name (entry_same q n.entries) ∙ marked_has (entry_of m) (entry_of n) name free marks q ∙ sym (seen q)

@@ -1,11 +1,11 @@
 //! Names that were claimed.
-ghost use Rattle.std.specs.Prelude.{◌≡◌, ◌↔◌, ◌||◌, ◌&&◌, ℕ, Bool, List, false, true, Some, OnOk, OnErr, IfOk, IsTrue, bytes_eq, cond};
+ghost use Rattle.std.specs.Prelude.{◌≡◌, ◌↔◌, ◌||◌, ◌&&◌, ℕ, Bool, List, false, true, Some, MatchOption, OnOk, OnErr, IfOk, IsTrue, bytes_eq, cond};
 ghost use Rattle.local_names.specs.Names.{IsDirectoryOf};
 ghost use Rattle.early_names.specs.Claims.{IsClear, is_claimed, is_name, no_claims};
-ghost use Rattle.early_names.specs.inner.Entries.{entry_of, HasClaimedAbove, IsUnmarked, IsAdded, MarksSome};
+ghost use Rattle.early_names.specs.inner.Entries.{entry_of, HasClaimedAbove, IsLongestDirectory, IsUnmarked, IsAdded, MarksAll, MarksSome};
 
+use indexmap::IndexMap;
 use std::alloc::{AllocError, Global};
-use std::collections::BTreeMap;
 use std::marker::Model;
 
 /// Names that one folder can hold, each claimed by one page: none is a directory of another.
@@ -13,7 +13,7 @@ use std::marker::Model;
 pub struct Claims {
     alloc: Global,
     // Of each claimed name true, and of each directory of one false.
-    entries: BTreeMap<Vec<u8>, bool>,
+    entries: IndexMap<String, bool>,
     // Whether memory ran out at a claim; its directories may have entries.
     is_closed: bool,
 }
@@ -30,24 +30,34 @@ impl Model for Claims {
     ghost invariant = { λ c. IsTable c.is_closed (entry_of c.entries) };
 }
 
-// Whether the name has the entry of a claimed one.
-fn has_claimed(entries: &BTreeMap<Vec<u8>, bool>, name: &[u8]) -> bool
-    ensures { result ≡ is_name (entry_of entries.now name.now) }
+// The longest directory of a name.
+fn directory_of(name: &str) -> Option<&str>
+    ensures { MatchOption result ((q : List ℕ) → IsDirectoryOf name.now q → ⊥) (λ directory. IsLongestDirectory name.now directory.now) }
 {
-    match entries.get(name) {
-        Some(is_name) => *is_name,
-        None => false,
+    match name.rsplit_once('/') {
+        Some((directory, _)) => Some(directory),
+        None => None,
     }
 }
 
-// Whether a directory of the name is claimed.
-fn is_below_claimed(entries: &BTreeMap<Vec<u8>, bool>, name: &[u8]) -> bool
+// Whether the name has the entry of a directory.
+fn is_marked(entries: &IndexMap<String, bool>, name: &str) -> bool
+    ensures { IsTrue result ↔ (entry_of entries.now name.now ≡ Some false) }
+{
+    entries.get(name) == Some(&false)
+}
+
+// Whether a directory of the name is claimed. The longest one that has an entry tells, as those above it are marked if it is.
+fn is_below_claimed(entries: &IndexMap<String, bool>, name: &str) -> bool
+    requires { MarksAll (entry_of entries.now) }
     ensures { IsTrue result ↔ HasClaimedAbove (entry_of entries.now) name.now }
 {
-    for i in 0..name.len() {
-        if name[i] == b'/' && has_claimed(entries, &name[..i]) {
-            return true;
+    let mut rest = name;
+    while let Some(directory) = directory_of(rest) {
+        if let Some(is_name) = entries.get(directory) {
+            return *is_name;
         }
+        rest = directory;
     }
     false
 }
@@ -55,44 +65,50 @@ fn is_below_claimed(entries: &BTreeMap<Vec<u8>, bool>, name: &[u8]) -> bool
 // Gives a name this entry.
 fn set(
     alloc: Global,
-    entries: &mut BTreeMap<Vec<u8>, bool>,
-    name: &[u8],
+    entries: &mut IndexMap<String, bool>,
+    name: &str,
     is_name: bool,
 ) -> Result<(), AllocError>
     ensures set { OnOk result ((q : List ℕ) → entry_of entries.new q ≡ cond (bytes_eq name.now q) (Some is_name) (entry_of entries.old q)) }
     ensures err { OnErr result ((q : List ℕ) → entry_of entries.new q ≡ entry_of entries.old q) }
 {
-    let key = Vec::from_slice(alloc, name)?;
+    let key = String::from_str(alloc, name)?;
     entries.insert(key, is_name)?;
     Ok(())
 }
 
-// Gives the directories of a name the entries of such.
+// Gives the directories of a name the entries of such, the longest first, up to one that has its own: those above it are marked.
 fn mark_directories(
     alloc: Global,
-    entries: &mut BTreeMap<Vec<u8>, bool>,
-    name: &[u8],
+    entries: &mut IndexMap<String, bool>,
+    name: &str,
 ) -> Result<(), AllocError>
+    requires { MarksAll (entry_of entries.old) }
     ensures some { MarksSome (entry_of entries.old) (entry_of entries.new) name.now }
     ensures all { OnOk result ((q : List ℕ) → IsDirectoryOf name.now q → entry_of entries.new q ≡ Some false) }
 {
-    for i in 0..name.len() {
-        if name[i] == b'/' {
-            set(alloc, entries, &name[..i], false)?;
+    let mut rest = name;
+    while let Some(directory) = directory_of(rest) {
+        if is_marked(entries, directory) {
+            return Ok(());
         }
+        set(alloc, entries, directory, false)?;
+        rest = directory;
     }
     Ok(())
 }
 
 // Whether the name has no entry, and no directory of it is claimed.
-fn is_clear(entries: &BTreeMap<Vec<u8>, bool>, name: &[u8]) -> bool
+fn is_clear(entries: &IndexMap<String, bool>, name: &str) -> bool
+    requires { MarksAll (entry_of entries.now) }
     ensures { IsTrue result ↔ IsUnmarked (entry_of entries.now) name.now }
 {
     !entries.contains_key(name) && !is_below_claimed(entries, name)
 }
 
 // Gives a name its entry, after those of its directories.
-fn add(alloc: Global, entries: &mut BTreeMap<Vec<u8>, bool>, name: &[u8]) -> Result<(), AllocError>
+fn add(alloc: Global, entries: &mut IndexMap<String, bool>, name: &str) -> Result<(), AllocError>
+    requires { MarksAll (entry_of entries.old) }
     ensures added { OnOk result (IsAdded (entry_of entries.old) (entry_of entries.new) name.now) }
     ensures err { OnErr result (MarksSome (entry_of entries.old) (entry_of entries.new) name.now) }
 {
@@ -108,7 +124,7 @@ impl Claims {
     {
         Claims {
             alloc,
-            entries: BTreeMap::new(alloc),
+            entries: IndexMap::new(alloc),
             is_closed: false,
         }
     }
@@ -123,11 +139,10 @@ impl Claims {
         ensures open { OnOk result (self.new.is_closed ≡ self.old.is_closed) }
         ensures err { OnErr result ((other : List ℕ) → is_claimed self.new other ≡ is_claimed self.old other) }
     {
-        let bytes = name.as_bytes();
-        if self.is_closed || !is_clear(&self.entries, bytes) {
+        if self.is_closed || !is_clear(&self.entries, name) {
             return Ok(false);
         }
-        match add(self.alloc, &mut self.entries, bytes) {
+        match add(self.alloc, &mut self.entries, name) {
             Ok(()) => Ok(true),
             Err(error) => {
                 self.is_closed = true;

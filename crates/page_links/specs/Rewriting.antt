@@ -1,5 +1,5 @@
 -- A page with other links: its bytes are as before, except those of values that have links.
-use Rattle.std.specs.Prelude.{◌≡◌, ◌⊎◌, ℕ, Bool, true, false, List, [], ◌∷◌, ◌++◌, Option, Some, None, option_map}
+use Rattle.std.specs.Prelude.{◌≡◌, ◌⊎◌, ℕ, true, List, [], ◌∷◌, ◌++◌, Option, Some, None, option_map}
 use Rattle.css_links.specs.Rewriting.{Change, changed}
 use Rattle.css_links.specs.Rewriting as sheets
 use Rattle.source_sets.specs.Rewriting as sets

@@ -1,18 +1,26 @@
 -- The table by which claims are kept: of each claimed name true, and of each directory of one false.
-use Rattle.std.specs.Prelude.{◌≡◌, ◌⊎◌, ℕ, Bool, true, false, List, Option, Some, None, Vec, map, bytes_eq}
-use Rattle.std.specs.BTreeMap.{BTreeMap, get_by}
-use Rattle.std.specs.Cmp.Lexicographic.{slice_cmp}
-use Rattle.std.specs.Ordering.{nat_cmp}
+use Rattle.std.specs.Prelude.{◌≡◌, ◌⊎◌, ◌<◌, ℕ, Bool, true, false, List, length, Option, Some, None, String, string_bytes, map, bytes_eq}
+use Rattle.indexmap.specs.IndexMap.{IndexMap, get_by}
 use Rattle.local_names.specs.Names.{IsDirectoryOf}
 use Rattle.early_names.specs.Claims.{is_name}
 
 -- the entry of a name
-abbrev pub entry_of : {Y : Type 0} → BTreeMap (Vec ℕ Y) Bool → List ℕ → Option Bool
-entry_of entries name = get_by (λ key. slice_cmp nat_cmp name key.items) entries
+abbrev pub entry_of : {Y S : Type 0} → IndexMap (String Y) Bool S → List ℕ → Option Bool
+entry_of entries name = get_by (λ key. bytes_eq name (string_bytes key)) entries
 
 -- the entries as they are in the map
-abbrev pub table_of : {Y : Type 0} → BTreeMap (Vec ℕ Y) Bool → List (List ℕ × Bool)
-table_of entries = map (λ entry. (entry.0.items, entry.1)) entries.entries
+abbrev pub table_of : {Y S : Type 0} → IndexMap (String Y) Bool S → List (List ℕ × Bool)
+table_of entries = map (λ entry. (string_bytes entry.0, entry.1)) entries.entries
+
+-- it is a directory of the name, and each other one is a directory of it
+pub record IsLongestDirectory (name directory : List ℕ) : Type 0 where
+  pub is : IsDirectoryOf name directory
+  pub others : (q : List ℕ) → IsDirectoryOf name q → (q ≡ directory) ⊎ IsDirectoryOf directory q
+  pub shorter : length directory < length name
+
+-- what is above a marked directory is marked
+abbrev pub MarksAll : (List ℕ → Option Bool) → Type 0
+MarksAll entry = (below above : List ℕ) → IsDirectoryOf below above → entry below ≡ Some false → entry above ≡ Some false
 
 -- a directory of the name is claimed
 abbrev pub HasClaimedAbove : (List ℕ → Option Bool) → List ℕ → Type 0

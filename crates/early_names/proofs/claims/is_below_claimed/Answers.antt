@@ -1,24 +1,25 @@
-use Rattle.std.proofs.Common.{length, take, sym, refl, ap, ◌∙◌, arith}
+use Rattle.std.proofs.Common.{rules, ◌≡◌, false, sym, ap}
 use Rattle.std.proofs.lemmas.Bool.{both_ways}
 use Rattle.early_names.specs.Claims.{is_name}
 use Rattle.early_names.specs.inner.Entries.{entry_of}
-use Rattle.early_names.proofs.ClaimLaws.{directory_at, directory_place}
+use Rattle.early_names.proofs.ClaimLaws.{left_next, left_last, left_marked, left_first, found_tells}
 use Rattle.early_names.proofs.claims.is_below_claimed.Goals as goal
 
-pub returns-then-has_claimed : goal.returns-then-has_claimed
-returns-then-has_claimed c =
-    let name = c.args.name.now in
-    let i = c.loop-i.i in
-    let found = sym c.has_claimed.ensures ∙ c.if-has_claimed.true in
-    let dir = directory_at name i (omega arith) c.if-name-i-eq47.true in
-    (λ _. (take i name, dir, found), λ _. refl)
+pub loop-directory-init : goal.loop-directory-init
+loop-directory-init c = (search rules, left_first (λ q. is_name (entry_of c.args.entries.now q) ≡ false) c.args.name.now)
+
+pub loop-directory-preserved : goal.loop-directory-preserved
+loop-directory-preserved c =
+    (search rules, left_next (λ q. is_name (entry_of c.args.entries.now q) ≡ false) c.args.name.now c.loop-directory.rest.now c.in-Some.directory.now c.loop-directory.invariant.1 c.in-Some.ensures (ap is_name (sym c.in_default-get.ensures.value)))
+
+pub returns-in-Some-get : goal.returns-in-Some-get
+returns-in-Some-get c =
+    found_tells (entry_of c.args.entries.now) c.args.name.now c.loop-directory.rest.now c.in-Some.directory.now c.in-Some-get.is_name.now c.requires c.loop-directory.invariant.1 c.in-Some.ensures (sym c.in-Some-get.ensures.value)
 
 pub returns : goal.returns
 returns c = (
   λ e. cc,
   λ claimed.
-      let name = c.args.name.now in
-      let place = directory_place name claimed.0 claimed.1 in
-      let free = c.loop-i.invariant (length claimed.0) (omega (arith, place.0)) place.1 in
-      absurd (both_ways _ free (ap (λ d. is_name (entry_of c.args.entries.now d)) place.2 ∙ claimed.2)),
+      let free = left_last (λ q. is_name (entry_of c.args.entries.now q) ≡ false) c.args.name.now c.loop-directory.rest.now c.loop-directory.invariant.1 (λ q dir. absurd (c.in_default.ensures q dir)) claimed.0 claimed.1 in
+      absurd (both_ways _ free claimed.2),
 )

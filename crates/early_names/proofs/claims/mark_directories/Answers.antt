@@ -1,29 +1,21 @@
-use Rattle.std.proofs.Common.{◌≡◌, Some, false, length, take, sym, ap, ◌∙◌, subst, arith}
-use Rattle.early_names.specs.inner.Entries.{entry_of, MarksSome}
-use Rattle.early_names.proofs.ClaimLaws.{directory_place, marks_more, all_more, all_still}
-use Rattle.early_names.proofs.claims.mark_directories.Goals.{then-name-i-eq47+in_ok-set, else-name-i-eq47}
+use Rattle.std.proofs.Common.{rules, ◌≡◌, Some, false}
+use Rattle.early_names.specs.inner.Entries.{entry_of}
+use Rattle.early_names.proofs.ClaimLaws.{left_last, marking_first, marking_next, marking_met}
 use Rattle.early_names.proofs.claims.mark_directories.Goals as goal
 
-pub loop-i-preserved : goal.loop-i-preserved
-loop-i-preserved c =
-    let name = c.args.name.now in
-    let i = c.loop-i.i in
-    let old = entry_of c.args.entries.now in
-    let mid = entry_of c.loop-i.entries in
-    elim c.if-name-i-eq47.branch [
-      | then-name-i-eq47+in_ok-set w ↦ (
-          let new = entry_of w.set.new.entries in
-          let put = w.in_ok-set.ensures.set in (
-            subst (λ m. MarksSome old (entry_of m) name) (sym w.entries-is) (marks_more old mid new name i (omega arith) w.if-name-i-eq47.true c.loop-i.invariant.0 put),
-            λ k below e. ap (λ m. entry_of m (take k name)) w.entries-is ∙ all_more mid new name i c.loop-i.invariant.1 put k below e,
-          ))
-      | else-name-i-eq47 w ↦ (
-        subst (λ m. MarksSome old (entry_of m) name) (sym w.entries-is) c.loop-i.invariant.0,
-        λ k below e. ap (λ m. entry_of m (take k name)) w.entries-is ∙ all_still (λ k. mid (take k name) ≡ Some false) name i c.loop-i.invariant.1 w.if-name-i-eq47.false k below e,
-      )
-    ]
+pub loop-directory-init : goal.loop-directory-init
+loop-directory-init c = (search rules, marking_first (entry_of c.args.entries.now) c.args.name.now)
+
+pub loop-directory-preserved : goal.loop-directory-preserved
+loop-directory-preserved c = (
+  search rules,
+  marking_next (entry_of c.args.entries.now) (entry_of c.loop-directory.entries) (entry_of c.set.new.entries) c.args.name.now c.loop-directory.rest.now c.in-Some.directory.now c.loop-directory.invariant.1 c.in-Some.ensures c.in_ok-set.ensures.set,
+)
+
+pub returns-then-is_marked-clause-all : goal.returns-then-is_marked-clause-all
+returns-then-is_marked-clause-all c =
+    marking_met (entry_of c.args.entries.now) (entry_of c.loop-directory.entries) c.args.name.now c.loop-directory.rest.now c.in-Some.directory.now c.requires c.loop-directory.invariant.1 c.in-Some.ensures (c.is_marked.ensures.0 c.if-is_marked.true)
 
 pub returns-clause-all : goal.returns-clause-all
-returns-clause-all c q dir =
-    let place = directory_place c.args.name.now q dir in
-    subst (λ d. entry_of c.loop-i.entries d ≡ Some false) place.2 (c.loop-i.invariant.1 (length q) (omega (arith, place.0)) place.1)
+returns-clause-all c =
+    left_last (λ q. entry_of c.loop-directory.entries q ≡ Some false) c.args.name.now c.loop-directory.rest.now c.loop-directory.invariant.1.left (λ q dir. absurd (c.in_default.ensures q dir))

@@ -1,6 +1,5 @@
-use Rattle.std.proofs.Common.{sym, refl, ap, ◌∙◌, subst}
+use Rattle.std.proofs.Common.{sym, refl, ap, ◌∙◌}
 use Rattle.std.proofs.lemmas.Bool.{both_ways}
-use Rattle.early_names.specs.inner.Entries.{entry_of, IsUnmarked, IsAdded, MarksSome}
 use Rattle.early_names.proofs.ClaimLaws.{clear_seen, unmarked_seen, added_seen, marked_seen}
 use Rattle.early_names.proofs.claims.Claims.claim.Goals.{then-self-via-then-self, then-self-via-else-self+then-not-is_clear}
 use Rattle.early_names.proofs.claims.Claims.claim.Goals as goal
@@ -12,26 +11,21 @@ returns-then-self-clause-exact c usable = (
     | then-self-via-then-self w ↦ absurd (both_ways c.self.inside.is_closed (ap (λ x. x.is_closed) c.self.view_is ∙ usable) w.if-self.true)
     | then-self-via-else-self+then-not-is_clear w ↦ (
         let free = unmarked_seen c.args.self.now c.self.inside.entries c.self.inside.is_closed (sym c.self.view_is) c.args.name.now c.self.invariant usable clear in
-        absurd (both_ways w.is_clear.result w.if-not-is_clear.true (w.is_clear.ensures.1 (subst (IsUnmarked (entry_of c.self.inside.entries)) (sym c.as_bytes-bytes.ensures.value) free))))
+        absurd (both_ways w.is_clear.result w.if-not-is_clear.true (w.is_clear.ensures.1 free)))
   ],
 )
 
 pub returns-in-Ok-clause-clear : goal.returns-in-Ok-clause-clear
 returns-in-Ok-clause-clear c e =
-    let free = subst (IsUnmarked (entry_of c.self.inside.entries)) c.as_bytes-bytes.ensures.value (c.is_clear.ensures.0 c.if-not-is_clear.false) in
-    clear_seen c.args.self.now c.self.inside.entries c.self.inside.is_closed (sym c.self.view_is) c.args.name.now c.self.invariant free
+    clear_seen c.args.self.now c.self.inside.entries c.self.inside.is_closed (sym c.self.view_is) c.args.name.now c.self.invariant (c.is_clear.ensures.0 c.if-not-is_clear.false)
 
 pub returns-in-Ok-clause-exact : goal.returns-in-Ok-clause-exact
 returns-in-Ok-clause-exact c usable = (returns-in-Ok-clause-clear c, λ clear. refl)
 
 pub returns-in-Ok-clause-claimed : goal.returns-in-Ok-clause-claimed
 returns-in-Ok-clause-claimed c =
-    let free = subst (IsUnmarked (entry_of c.self.inside.entries)) c.as_bytes-bytes.ensures.value (c.is_clear.ensures.0 c.if-not-is_clear.false) in
-    let added = subst (IsAdded (entry_of c.self.inside.entries) (entry_of c.add.new.entries)) c.as_bytes-bytes.ensures.value c.in-Ok.ensures.added in
-    added_seen c.args.self.now c.self.inside.entries c.self.inside.is_closed (sym c.self.view_is) c.add.new.entries c.args.name.now free added
+    added_seen c.args.self.now c.self.inside.entries c.self.inside.is_closed (sym c.self.view_is) c.add.new.entries c.args.name.now (c.is_clear.ensures.0 c.if-not-is_clear.false) c.in-Ok.ensures.added
 
 pub returns-in-Err-clause-err : goal.returns-in-Err-clause-err
 returns-in-Err-clause-err c =
-    let free = subst (IsUnmarked (entry_of c.self.inside.entries)) c.as_bytes-bytes.ensures.value (c.is_clear.ensures.0 c.if-not-is_clear.false) in
-    let marks = subst (MarksSome (entry_of c.self.inside.entries) (entry_of c.add.new.entries)) c.as_bytes-bytes.ensures.value c.in-Err.ensures.err in
-    marked_seen c.args.self.now c.self.inside.entries c.self.inside.is_closed (sym c.self.view_is) c.add.new.entries c.args.name.now free marks
+    marked_seen c.args.self.now c.self.inside.entries c.self.inside.is_closed (sym c.self.view_is) c.add.new.entries c.args.name.now (c.is_clear.ensures.0 c.if-not-is_clear.false) c.in-Err.ensures.err
