@@ -11,7 +11,7 @@ use Rattle.html_links.specs.inner.Rows.{named}
 abbrev pub row_at : ℕ → Row
 row_at k = get_or link_table k (row 0 [] [] form.Link)
 
-pub row_named : (rows : List declared.Row) (k : ℕ) (d : declared.Row) → map named rows ≡ link_table → k < 45 → named (get_or rows k d) ≡ row_at k
+pub row_named : (rows : List declared.LinkRow) (k : ℕ) (d : declared.LinkRow) → map named rows ≡ link_table → k < 45 → named (get_or rows k d) ≡ row_at k
 unfolding link_table
 row_named rows k d is below =
     let long : length rows ≡ 45 = sym (length-map rows named) ∙ ap (λ (rs : List Row). length rs) is in

@@ -1,8 +1,8 @@
 -- What links of a kept page become leads where they led.
 use Rattle.std.proofs.Common.{◌≡◌, ◌⊎◌, inl, inr, ℕ, true, false, Bool, List, [], ◌∷◌, Option, Some, None, All, refl, sym, ap, ◌∙◌, subst, if◌then◌else◌}
-use Rattle.std.specs.Prelude.{bytes_eq, MatchOption, option_map}
+use Rattle.std.specs.Prelude.{◌==◌, length, bytes_eq, MatchOption, option_map}
 use Rattle.std.specs.Option.{unwrap_or}
-use Rattle.std.proofs.lemmas.List.Elements.{All-head, All-tail, All-weaker}
+use Rattle.std.proofs.lemmas.List.Elements.{All-head, All-nil, All-tail, All-weaker}
 use Rattle.std.specs.List.{slice_split}
 use Rattle.address.specs.Address.{AddressText}
 use Rattle.css_links.specs.References.{references}
@@ -57,10 +57,15 @@ names_for value.Base run all = all
 names_for value.Set run all = all
 names_for value.Refresh run all = all
 names_for value.Sheet run all = all
-names_for value.Mention run all = tt
+names_for value.Mention run all = All-nil IsKeptName
 
 pub is_mirror : (p : KeptPage) (f : ValueForm) → All IsKeptName p.run.names → IsMirror (page_in p f)
 is_mirror p f all = λ address name e. name_kept (kept_for f p.run).kept (kept_for f p.run).names address name (names_for f p.run all) e
+
+-- what is only mentioned, if it isn't empty, becomes what a link becomes of which nothing was kept
+pub mentioned : (p : KeptPage) (text : List ℕ) → (length text == 0) ≡ false → becomes (page_in p value.Mention) text ≡ becomes_in p value.Mention text
+mentioned p [] is = absurd (cc)
+mentioned p (b ∷ bs) is = refl
 
 -- a link that leads there by the page's clauses
 pub leads_alike : (p : KeptPage) (f : ValueForm) (page : Page) (text : List ℕ) (new : Option (List ℕ)) → page ≡ page_in p f → new ≡ becomes page text

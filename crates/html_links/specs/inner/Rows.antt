@@ -6,7 +6,7 @@ use Rattle.html_links.specs.declared.table.LinkRow as declared
 use Rattle.html_links.specs.declared.asked.AskedName.{AskedName}
 
 -- a row by its names
-abbrev pub named : declared.Row → Row
+abbrev pub named : declared.LinkRow → Row
 named r = record { number = r.0; element = r.1.now; attribute = asked_name r.2; form = r.3 }
 
 -- whether a name begins with that byte
