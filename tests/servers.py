@@ -76,7 +76,9 @@ class Site:
     def serve(self, connection, port):
         try:
             with connection, contextlib.suppress(OSError):
-                self.opened.append(connection.getpeername())
+                with self.change:
+                    self.opened.append(connection.getpeername())
+                    self.change.notify_all()
                 if self.greet:
                     self.greet(connection)
                 else:
@@ -110,6 +112,16 @@ class Site:
             return answer(connection, request)
         connection.sendall(answer)
         return True
+
+    def wait_until_idle(self, seconds):
+        """Waits until what clients that are gone had sent is read, for so many seconds at most, so that nothing of it is noted later."""
+        with socket.create_connection(("127.0.0.1", self.port)) as last:
+            # Connections are accepted in their order.
+            name = last.getsockname()
+            with self.change:
+                self.change.wait_for(lambda: name in self.opened, seconds)
+        with self.change:
+            self.change.wait_for(lambda: not self.serving, seconds)
 
     def close(self):
         # Else a thread might take the connections of the next server, whose socket has this one's number.
