@@ -17,8 +17,9 @@ pub struct EarlierPage<'a, F: Read + Drop> {
     alloc: Global,
     entry: &'a Entry,
     file: F,
-    // Another file that may be the page's, with as many bytes.
+    // Other files that may be the page's, with as many bytes.
     other: Option<F>,
+    last: Option<F>,
 }
 
 impl<'a, F: Read + Drop> Model for EarlierPage<'a, F> {
@@ -82,12 +83,13 @@ fn head_of(alloc: Global, entry: &Entry) -> Result<Vec<u8>, AllocError>
 }
 
 impl<'a, F: Read + Drop> EarlierPage<'a, F> {
-    // Of this entry, with its file, and perhaps another that may be its file. Nothing was read of them.
+    // Of this entry, with its file, and perhaps others that may be its file. Nothing was read of them.
     pub(crate) fn new(
         alloc: Global,
         entry: &'a Entry,
         file: F,
         other: Option<F>,
+        last: Option<F>,
     ) -> EarlierPage<'a, F>
         ensures entry { result.entry ≡ entry.now }
         ensures file { result.file ≡ file }
@@ -97,17 +99,19 @@ impl<'a, F: Read + Drop> EarlierPage<'a, F> {
             entry,
             file,
             other,
+            last,
         }
     }
 
-    /// The same page with the other file that may be its, if there is one: what is read if the first hasn't the bytes that it had. Gives it
-    /// once. Takes no memory.
+    /// The same page with the next file that may be its, if there is one: what is read if this one hasn't the bytes that it had. It has the
+    /// one after that, if there is another. Gives it once. Takes no memory.
     pub fn take_other(&mut self) -> Option<EarlierPage<'a, F>>
         ensures other { IfSome result (λ other. other.entry ≡ self.old.entry) }
         ensures page { self.new ≡ self.old }
     {
         let file = self.other.take()?;
-        Some(EarlierPage::new(self.alloc, self.entry, file, None))
+        let last = self.last.take();
+        Some(EarlierPage::new(self.alloc, self.entry, file, last, None))
     }
 
     /// What the index says of it.
@@ -140,6 +144,7 @@ impl<'a, F: Read + Drop> EarlierPage<'a, F> {
             entry,
             file,
             other: _other,
+            last: _last,
         } = self;
         let head = head_of(alloc, entry)?;
         Ok(RecordedStream::new(head, file))

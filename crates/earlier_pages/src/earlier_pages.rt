@@ -56,25 +56,35 @@ impl EarlierPages {
         &self.index
     }
 
-    // The file of an entry's name with this ending, if it has as many bytes as the entry's had.
-    fn file<R: Files>(&self, rt: &R, entry: &Entry, ending: &str) -> Option<R::File> {
+    // The file of an entry's name with this before it and this ending, if it has as many bytes as the entry's had.
+    fn file<R: Files>(&self, rt: &R, entry: &Entry, before: &str, ending: &str) -> Option<R::File> {
         let folder = self.folder.as_str();
         let name = entry.name();
-        let path = format!(in self.alloc; "{folder}/{name}{ending}").ok()?;
+        let path = format!(in self.alloc; "{folder}/{before}{name}{ending}").ok()?;
         file_at(rt, path.as_str(), entry.size())
     }
 
     /// The page of an address, if one was kept and its file has as many bytes as it had: whether they are the same, who reads them finds
-    /// out. Its file is what was kept of it before its links were changed, or else the one of its own name; if both have so many bytes, that
-    /// one is its other. What can't be opened isn't there.
+    /// out. Its file is what was kept of it before its links were changed, beside it or else in the program's own directory, or else the one
+    /// of its own name; if several have so many bytes, the next is its other. What can't be opened isn't there.
     pub fn page<R: Files>(&self, rt: &R, at: &Address) -> Option<EarlierPage<'_, R::File>>
         ensures { IfSome result (λ page. HasThis self.now at.now page.entry) }
     {
         let entry = self.index.entry(at)?;
-        let own = self.file(rt, entry, "");
-        match self.file(rt, entry, ".orig") {
-            Some(file) => Some(EarlierPage::new(self.alloc, entry, file, own)),
-            None => Some(EarlierPage::new(self.alloc, entry, own?, None)),
+        let own = self.file(rt, entry, "", "");
+        let hidden = self.file(rt, entry, ".wgetr%orig/", "");
+        match (self.file(rt, entry, "", ".orig"), hidden) {
+            (Some(beside), Some(hidden)) => Some(EarlierPage::new(
+                self.alloc,
+                entry,
+                beside,
+                Some(hidden),
+                own,
+            )),
+            (Some(file), None) | (None, Some(file)) => {
+                Some(EarlierPage::new(self.alloc, entry, file, own, None))
+            }
+            (None, None) => Some(EarlierPage::new(self.alloc, entry, own?, None, None)),
         }
     }
 }

@@ -168,8 +168,8 @@ where
         Ok(None)
     }
 
-    // The page of an earlier run again, if one of the files that may be its still has the bytes that it had.
-    fn replayed(
+    // The same of one of two files: this one, and the other that the page may have.
+    fn read_one(
         &mut self,
         at: &Address,
         mut page: EarlierPage<'_, R::File>,
@@ -183,6 +183,25 @@ where
         }
         match other {
             Some(other) => self.read_again(at, other),
+            None => Ok(None),
+        }
+    }
+
+    // The page of an earlier run again, if one of the files that may be its, three at most, still has the bytes that it had.
+    fn replayed(
+        &mut self,
+        at: &Address,
+        mut page: EarlierPage<'_, R::File>,
+    ) -> Result<Option<Answer<KeptPart>>, AllocError>
+        ensures recorded { IfOk result (λ found. IfSome found (IsRecorded (lasting self.old) at.now page.entry.entry)) }
+        ensures fetcher { self.new ≡ self.old }
+    {
+        let other = page.take_other();
+        if let Some(answer) = self.read_again(at, page)? {
+            return Ok(Some(answer));
+        }
+        match other {
+            Some(other) => self.read_one(at, other),
             None => Ok(None),
         }
     }
