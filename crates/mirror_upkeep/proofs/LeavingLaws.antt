@@ -6,7 +6,7 @@ use Rattle.std.proofs.lemmas.List.Elements.{filter_agree}
 use Rattle.std.proofs.lemmas.List.Sorted.{list_any-IsPermutation}
 use Rattle.address.specs.Address.{AddressText}
 use Rattle.mirror_index.specs.Entries.{Entry, Text}
-use Rattle.mirror_upkeep.specs.Leaving.{files, files_of, is_gone, is_to_go, other_name}
+use Rattle.mirror_upkeep.specs.Leaving.{files, files_of, is_gone, is_to_go, originals_of, other_name}
 use Rattle.mirror_upkeep.specs.Names.{has_name, is_directory_of, is_in_way}
 use Rattle.mirror_upkeep.proofs.NameLaws.{has_moved}
 
@@ -17,9 +17,15 @@ module _ (xs ys : List Text) (moved : IsPermutation ys xs) where
   same_other : (name : Text) → other_name xs name ≡ other_name ys name
   same_other name = ap (λ (b : Bool). cond b [] (name ∷ [])) (same_has name)
 
+  same_both : {ms ns os ps : List Text} → ms ≡ ns → os ≡ ps → ms ++ os ≡ ns ++ ps
+  same_both {ms} {ns} {os} {ps} m o = ap (λ (l : List Text). l ++ os) m ∙ ap (λ (l : List Text). ns ++ l) o
+
+  same_originals : (backs_up : Bool) (name : Text) → originals_of backs_up xs name ≡ originals_of backs_up ys name
+  same_originals true name = same_both (same_other (name ++ codes ".orig")) (same_other (codes ".wgetr%orig/" ++ name))
+  same_originals false name = same_other (codes ".wgetr%orig/" ++ name)
+
   same_of : (backs_up : Bool) (name : Text) → files_of backs_up xs name ≡ files_of backs_up ys name
-  same_of true name = ap (λ (ns : List Text). ns ++ other_name xs name) (same_other (name ++ codes ".orig")) ∙ ap (λ (ns : List Text). other_name ys (name ++ codes ".orig") ++ ns) (same_other name)
-  same_of false name = same_other name
+  same_of backs_up name = same_both (same_originals backs_up name) (same_other name)
 
   same_files : (backs_up : Bool) (es : List Entry) → files backs_up xs es ≡ files backs_up ys es
   same_files backs_up [] = refl

@@ -8,9 +8,13 @@ use Rattle.mirror_upkeep.specs.Names.{has_name, is_in_way}
 abbrev pub other_name : List Text → Text → List Text
 other_name names name = if has_name names name then [] else name ∷ []
 
--- the files of a page whose file has this name: of its body as it came, if such are kept, and the file; none of them has one of these names
+-- those of a page's body as it came, beside a file of this name if such are kept, and in the program's own directory
+abbrev pub originals_of : Bool → List Text → Text → List Text
+originals_of backs_up names name = (if backs_up then other_name names (name ++ codes ".orig") else []) ++ other_name names (codes ".wgetr%orig/" ++ name)
+
+-- the files of a page whose file has this name: of its body as it came, and the file; none of them has one of these names
 abbrev pub files_of : Bool → List Text → Text → List Text
-files_of backs_up names name = (if backs_up then other_name names (name ++ codes ".orig") else []) ++ other_name names name
+files_of backs_up names name = originals_of backs_up names name ++ other_name names name
 
 -- those of the pages of these entries
 abbrev pub files : Bool → List Text → List Entry → List Text

@@ -3,7 +3,7 @@ ghost use Rattle.std.specs.Prelude.{◌≡◌, ◌++◌, IfOk, OnOk, map, string
 ghost use Rattle.std.specs.List.{filter};
 ghost use Rattle.std.specs.List.Sorted.{IsSorted};
 ghost use Rattle.address.specs.AddressOrder.{IsAscending};
-ghost use Rattle.mirror_upkeep.specs.Leaving.{files, files_of, is_gone, is_to_go, other_name};
+ghost use Rattle.mirror_upkeep.specs.Leaving.{files, files_of, is_gone, is_to_go, originals_of, other_name};
 ghost use Rattle.mirror_upkeep.specs.Names.{has_name, is_in_way};
 ghost use Rattle.mirror_upkeep.specs.inner.Lent.{lent_text, text_cmp};
 
@@ -28,8 +28,28 @@ fn push_other(
     Ok(())
 }
 
-// Adds the names of the files of a page that has this name: of its body as it came, if such are kept, and of its file. Those of this
-// run, which are in order, aren't added.
+// Adds the names of the files of a page's body as it came, whose file has this name: beside it if such are kept, and in the program's own
+// directory, since an earlier run may have kept it there. Those of this run, which are in order, aren't added.
+fn push_originals(
+    alloc: Global,
+    leaving: &mut Vec<String>,
+    names: &[&[u8]],
+    name: &str,
+    backs_up: bool,
+) -> Result<(), AllocError>
+    requires { IsSorted text_cmp names.now }
+    ensures { OnOk result (map string_bytes leaving.new.items ≡ map string_bytes leaving.old.items ++ originals_of backs_up (map lent_text names.now) name.now) }
+{
+    if backs_up {
+        let beside = format!(in alloc; "{name}.orig")?;
+        push_other(alloc, leaving, names, beside.as_str())?;
+    }
+    let hidden = format!(in alloc; ".wgetr%orig/{name}")?;
+    push_other(alloc, leaving, names, hidden.as_str())
+}
+
+// Adds the names of the files of a page that has this name: of its body as it came, and of its file. Those of this run, which are in
+// order, aren't added.
 fn push_files(
     alloc: Global,
     leaving: &mut Vec<String>,
@@ -40,10 +60,7 @@ fn push_files(
     requires { IsSorted text_cmp names.now }
     ensures { OnOk result (map string_bytes leaving.new.items ≡ map string_bytes leaving.old.items ++ files_of backs_up (map lent_text names.now) name.now) }
 {
-    if backs_up {
-        let beside = format!(in alloc; "{name}.orig")?;
-        push_other(alloc, leaving, names, beside.as_str())?;
-    }
+    push_originals(alloc, leaving, names, name, backs_up)?;
     push_other(alloc, leaving, names, name)
 }
 
@@ -68,8 +85,8 @@ fn gone_beside(
     Ok(leaving)
 }
 
-/// The names of the files of an earlier run's pages whose names this run doesn't give, each after that of its body as it came, if such
-/// are kept. Fails only if memory runs out.
+/// The names of the files of an earlier run's pages whose names this run doesn't give, each after those of its body as it came: beside it,
+/// if such are kept, and in the program's own directory. Fails only if memory runs out.
 pub fn gone(
     alloc: Global,
     earlier: &[Entry],
@@ -148,8 +165,8 @@ fn in_way_of(
 }
 
 /// The names of the files of an earlier run's pages that are to go before this run's are put: those of pages that are kept under other
-/// names, and those that are in the way, since one name is a directory of the other. None is a name of this run. Each is after that of
-/// its body as it came, if such are kept. The addresses of the kept pages are in order. Fails only if memory runs out.
+/// names, and those that are in the way, since one name is a directory of the other. None is a name of this run. Each is after those of
+/// its body as it came, as of [`gone`]. The addresses of the kept pages are in order. Fails only if memory runs out.
 pub fn in_way(
     alloc: Global,
     earlier: &[Entry],
