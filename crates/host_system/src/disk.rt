@@ -10,8 +10,8 @@ use early_names::EarlyRules;
 use harvest::Harvest;
 use kept_bodies::Body;
 use local_tree::{
-    BodyChange, DiskFolder, Folder, FolderFault, NamesParts, Shelf, WriteFault, put_changed_parts,
-    put_parts,
+    BodyChange, DiskFolder, Folder, FolderFault, NamesParts, Originals, Shelf, WriteFault,
+    put_changed_parts, put_parts,
 };
 use part_keeper::{KeptPart, PartsDir, Standing};
 use record_journal::SavedFile;
@@ -37,8 +37,8 @@ pub struct PageFolder<'a, R: Net + Files + Wait> {
     pub(crate) early: &'a EarlyRun,
     pub(crate) index: &'a IndexRun<R::File>,
     pub(crate) failures: &'a SharedFailures,
-    // Whether bodies are kept, as they came, beside files whose links change.
-    pub(crate) keeps_originals: bool,
+    // Where bodies are kept, as they came, of files whose links change.
+    pub(crate) originals: Originals,
 }
 
 // Written by hand: a user that drops one proves a call, and nothing about its fields.
@@ -54,7 +54,7 @@ impl<'a, R: Net + Files + Wait> Drop for PageFolder<'a, R> {
             early: _early,
             index: _index,
             failures: _failures,
-            keeps_originals: _keeps_originals,
+            originals: _originals,
         } = self;
     }
 }
@@ -300,9 +300,7 @@ where
         self.take_parts();
         self.take_back(names, harvest);
         self.make_way(names, harvest);
-        if self.keeps_originals {
-            self.inner.keep_originals(names);
-        }
+        self.inner.keep_originals(self.originals, names);
         let put = put_changed_parts(self, names, harvest, change);
         self.inner.end_puts();
         if put.is_ok() {

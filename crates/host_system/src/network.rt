@@ -8,7 +8,7 @@ use crate::parts_asking::PartsAsking;
 use crate::shared_failures::SharedFailures;
 use early_names::EarlyRules;
 use live_system::{FetcherSettings, HoldFault, System};
-use local_tree::DiskFolder;
+use local_tree::{DiskFolder, Originals};
 use options::Order;
 use part_keeper::{KeptPart, PartsDir};
 use progress::ProgressLine;
@@ -194,7 +194,7 @@ where
 
     ghost makes_recorder = { λ network settings fetcher. (fetcher.inner.inner.links ≡ settings.links) × (fetcher.inner.inner.keeps ≡ is_some settings.kept) × (fetcher.inner.inner.most ≡ settings.kept) × (fetcher.inner.inner.sends ≡ Some (record settings.sends { jar = network.jar })) × (fetcher.inner.inner.retries ≡ settings.retries) × (fetcher.inner.inner.limits ≡ limits_of settings.manner.body_limit) × (fetcher.inner.is_recording ≡ settings.is_recording) };
 
-    ghost opens = { λ network path folder. folder.inner ≡ opened_at path };
+    ghost opens = { λ network path originals folder. (folder.inner ≡ opened_at path) × (folder.originals ≡ originals) };
 
     ghost holds = { λ network path bytes. ⊤ };
 
@@ -236,7 +236,7 @@ where
         Some(self.progress.waiting())
     }
 
-    fn folder(&self, path: &str, keeps_originals: bool) -> Result<PageFolder<'a, R>, AllocError> {
+    fn folder(&self, path: &str, originals: Originals) -> Result<PageFolder<'a, R>, AllocError> {
         self.parts.set_folder(self.rt, path)?;
         match DiskFolder::new(self.rt, self.alloc, path) {
             Ok(inner) => Ok(PageFolder {
@@ -249,7 +249,7 @@ where
                 early: self.early,
                 index: self.index,
                 failures: self.failures,
-                keeps_originals,
+                originals,
             }),
             Err(_) => Err(AllocError),
         }

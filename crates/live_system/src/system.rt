@@ -1,12 +1,13 @@
 //! What a live run has of the system.
 ghost use Rattle.std.specs.Prelude.{◌≡◌, ℕ, List, IfOk, Err, ⊤, true};
 ghost use Rattle.live_system.specs.Settings.{Settings};
+ghost use Rattle.local_tree.specs.declared.disk_folder.originals.Originals.{Originals};
 
 use answer_notes::Recording;
 use early_names::EarlyRules;
 use fetcher::Fetcher;
 use html_links::LinkRules;
-use local_tree::{HasKind, Shelf};
+use local_tree::{HasKind, Originals, Shelf};
 use options::Order;
 use pacing::{Manner, Retries};
 use requests::{Proxies, Sending};
@@ -79,8 +80,8 @@ pub trait System {
     // The same of those that may note what they receive.
     ghost makes_recorder: { Self → Settings → Self.Recorder → Type 0 };
 
-    // The folders that may be given for a path.
-    ghost opens: { Self → List ℕ → Self.Folder → Type 0 };
+    // The folders that may be given for a path, by where they keep bodies as they came.
+    ghost opens: { Self → List ℕ → Originals → Self.Folder → Type 0 };
 
     // The bytes that the file at a path may have.
     ghost holds: { Self → List ℕ → List ℕ → Type 0 };
@@ -119,10 +120,10 @@ pub trait System {
     fn recorder(&self, settings: FetcherSettings) -> Result<Self::Recorder, AllocError>
         ensures { IfOk result (λ recorder. makes_recorder self.now settings recorder) };
 
-    /// The folder at a path. Nothing is made there before the first put. Of files whose links change the bodies are kept beside them, as
-    /// they came, if that is said. Fails only if memory runs out.
-    fn folder(&self, path: &str, keeps_originals: bool) -> Result<Self::Folder, AllocError>
-        ensures { IfOk result (opens self.now path.now) };
+    /// The folder at a path. Nothing is made there before the first put. Of files whose links change the bodies are kept as they came, where
+    /// that is said. Fails only if memory runs out.
+    fn folder(&self, path: &str, originals: Originals) -> Result<Self::Folder, AllocError>
+        ensures { IfOk result (opens self.now path.now originals) };
 
     /// Holds the place at which a run saves, before anything is read or requested, so that no other saves there; `_resumed` is the
     /// file that the run goes on from, if there is one. Why a path is refused is reported to a person.

@@ -24,7 +24,8 @@ mod named_parts;
 mod originals;
 
 pub use named_parts::{NamesParts, put_changed_parts, put_parts};
-use originals::Originals;
+use originals::Keeping;
+pub use originals::Originals;
 
 /// How many files of a site are made ready together, at most.
 const BATCH: usize = 256;
@@ -84,7 +85,9 @@ pub struct DiskFolder<'a, R: Files> {
     // Where parts are made, while files are put.
     own: Option<OwnDir<R::File>>,
     known: Known,
-    originals: Originals,
+    // The same of hidden bodies.
+    known_hidden: Known,
+    keeping: Keeping,
     failed: u64,
     // That of the last put that failed.
     error: Option<Error>,
@@ -360,7 +363,8 @@ where
             has_moved_back: false,
             own: None,
             known: Known::nothing(alloc),
-            originals: Originals::None,
+            known_hidden: Known::nothing(alloc),
+            keeping: Keeping::Nowhere,
             failed: 0,
             error: None,
         })

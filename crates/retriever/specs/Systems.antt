@@ -1,11 +1,13 @@
 -- What a live run makes of an order by what a system gives it.
-use Rattle.std.specs.Prelude.{◌≡◌, ◌⊎◌, ℕ, Bool, is_some, true, false, List, All, Option, Some, None, MatchOption, codes, length, map}
+use Rattle.std.specs.Prelude.{◌≡◌, ◌⊎◌, ◌&&◌, ◌||◌, ℕ, Bool, is_some, true, false, List, All, Option, Some, None, MatchOption, codes, length, map, if◌then◌else◌}
 use Rattle.std.specs.declared.io.Write.{Ghosts as Writers}
 use Rattle.kept_bodies.specs.Bodies.{BodyValue}
 use Rattle.options.specs.declared.order.Order.{Order}
 use Rattle.options.specs.Order.{kept_of, sending_of}
 use Rattle.fetcher.specs.declared.fetcher.Fetcher.{Ghosts as Fetchers}
 use Rattle.local_tree.specs.Folders.{Holding, holding}
+use Rattle.local_tree.specs.declared.disk_folder.originals.Originals.{Originals}
+use Rattle.local_tree.specs.declared.disk_folder.originals.Originals.TheVariants.{Nowhere, Beside, Hidden}
 use Rattle.local_tree.specs.declared.folder.Folder.{Ghosts as Folders}
 use Rattle.answer_notes.specs.declared.noted.Noted.{Noted}
 use Rattle.site_inputs.specs.declared.input_fault.InputFault.TheVariants as input
@@ -47,6 +49,12 @@ abbrev pub settings_of : Order → Bool → Settings
 settings_of order is_recording =
     record { links = order.links; is_recording = is_recording; kept = kept_of order; proxies = order.proxies; sends = sending_of order; manner = order.manner; retries = retries_by order.retries; takes_times = order.takes_times }
 
+-- where an order keeps bodies as they came whose links change: beside their files if it says so, and if not, for later runs alone, if it
+-- keeps an index
+abbrev pub originals_of : Order → Originals
+originals_of order =
+    if order.backs_up then Beside else (if order.converts && (order.upkeep.timestamps || order.upkeep.skips) then Hidden else Nowhere)
+
 -- the bytes are a record, which says this; if it is saved again its notes say the same
 abbrev pub IsRecordRead : Bool → LinkRules → List ℕ → RecordValue → Type 0
 IsRecordRead is_saving links bytes recorded =
@@ -66,11 +74,11 @@ module _ {S B F K D V : Type 0} (m : Means S B F K D V) where
   held folder = holding m.folders.files m.folders.failed folder
 
   -- fetchers that are made for the order, with notes or without, as many as there are to be workers, and a folder that the system opens at the
-  -- order's prefix
+  -- order's prefix and that keeps bodies where the order does
   pub record AreGiven {X : Type 0} (makes : Settings → X → Type 0) (order : Order) (is_recording : Bool) (fetchers : List X) (folder : D) : Type 0 where
     pub made : All (makes (settings_of order is_recording)) fetchers
     pub count : length fetchers ≡ order.workers
-    pub opened : m.gives.opens m.system order.prefix folder
+    pub opened : m.gives.opens m.system order.prefix (originals_of order) folder
 
   -- the live retrieval that is ordered, by such fetchers and into such a folder
   pub record LivesPlainly (order : Order) (before after : Option (List ℕ)) (status : ℕ) : Type 0 where

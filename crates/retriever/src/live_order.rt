@@ -7,7 +7,7 @@ ghost use Rattle.retriever.specs.Keeping.{kept_as};
 ghost use Rattle.retriever.specs.Live.{Lives};
 ghost use Rattle.retriever.specs.Rejecting.{IsLogLive, IsLogOfCrew, IsLogTaken};
 ghost use Rattle.retriever.specs.Resuming.{IsUnresumed};
-ghost use Rattle.retriever.specs.Systems.{IsNotRead, IsNotResumed, IsRecordRead, IsResumed, LivesAgain, LivesBy, LivesIn, LivesPlainly, LivesSaving, LivesWith, means, settings_of};
+ghost use Rattle.retriever.specs.Systems.{IsNotRead, IsNotResumed, IsRecordRead, IsResumed, LivesAgain, LivesBy, LivesIn, LivesPlainly, LivesSaving, LivesWith, means, originals_of, settings_of};
 ghost use Rattle.retriever.specs.inner.Systems.{AreResuming, is_plain};
 
 use crate::input_run::{MAX_INPUT, deliver};
@@ -20,7 +20,7 @@ use crate::saved_run::{live_saved, resuming};
 use early_names::EarlyRules;
 use fetcher::Fetcher;
 use live_system::{FetcherSettings, HoldFault, RejectedLog, System};
-use local_tree::{HasKind, Shelf};
+use local_tree::{HasKind, Originals, Shelf};
 use options::Order;
 use site_inputs::InputFault;
 use site_records::{RecordedSite, Resumed};
@@ -92,6 +92,20 @@ fn recorders_of<S: System>(
     Ok(fetchers)
 }
 
+// Where the order keeps bodies as they came whose links change.
+fn originals_of(order: &Order) -> Originals
+    ensures { result ≡ originals_of order.now }
+{
+    let keeps_index = order.upkeep.timestamps || order.upkeep.skips;
+    if order.backs_up {
+        Originals::Beside
+    } else if order.converts && keeps_index {
+        Originals::Hidden
+    } else {
+        Originals::Nowhere
+    }
+}
+
 // Keeps what was retrieved to the end. To give its memory back to the system, page by page, would take a tenth of a large
 // run, and the process ends after it.
 fn keep_to_the_end<B: Drop>(retrieved: Result<Harvest<B>, Halt<B>>) {
@@ -156,7 +170,7 @@ fn live_plainly<H: Threads + Wait + Sync, S: System, W: Write, L: RejectedLog>(
 {
     begin_naming(alloc, system, order)?;
     let fetchers = fetchers_of(alloc, system, order)?;
-    let mut folder = system.folder(order.prefix.as_str(), order.backs_up)?;
+    let mut folder = system.folder(order.prefix.as_str(), originals_of(order))?;
     Ok(live_into(rt, alloc, system, order, fetchers, &mut folder, writer, log))
 }
 
@@ -191,7 +205,7 @@ fn live_again<H: Threads + Wait + Sync, S: System, W: Write, L: RejectedLog>(
     ensures logged { IsLogTaken (IsLogLive (means S.System system.now S.Fetcher.Fetcher S.Recorder.Fetcher S.Recorder.noted (kept_as S.Body.kind_of S.Body.len_of S.Folder.holds) S.Folder.Folder S.Record.Write) order.now) (L.contents log.old) (L.contents log.new) }
 {
     let resumed = resumed_of(alloc, system, order, recorded, false)?;
-    let mut folder = system.folder(order.prefix.as_str(), order.backs_up)?;
+    let mut folder = system.folder(order.prefix.as_str(), originals_of(order))?;
     Ok(live_into(rt, alloc, system, order, resumed, &mut folder, writer, log))
 }
 
@@ -212,7 +226,7 @@ fn live_saving<H: Threads + Wait + Sync, S: System, W: Write, L: RejectedLog>(
     ensures logged { IsLogTaken (IsLogLive (means S.System system.now S.Fetcher.Fetcher S.Recorder.Fetcher S.Recorder.noted (kept_as S.Body.kind_of S.Body.len_of S.Folder.holds) S.Folder.Folder S.Record.Write) order.now) (L.contents log.old) (L.contents log.new) }
 {
     let resumed = resumed_of(alloc, system, order, recorded, true)?;
-    let mut folder = system.folder(order.prefix.as_str(), order.backs_up)?;
+    let mut folder = system.folder(order.prefix.as_str(), originals_of(order))?;
     let mut saved = system.record(path)?;
     let (status, retrieved) = live_saved(
         rt,

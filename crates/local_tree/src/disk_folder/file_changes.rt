@@ -1,7 +1,7 @@
 //! Files that are to have other bytes in place of their bodies. What takes a file's place is prepared elsewhere, and takes it when it is
 //! whole.
-use super::originals::ORIGINAL;
-use super::{look_for_file, path_below};
+use super::originals::{HIDDEN, ORIGINAL, Originals};
+use super::{Known, find_place, look_for_file, path_below, put_by_way_of};
 use crate::body_change::{BodyChange, ChangeFault};
 use crate::parts::write_new;
 use kept_bodies::BodyKind;
@@ -13,12 +13,28 @@ use std::io::{Error, ErrorKind, Read};
 use std::time::SystemTime;
 use streams::Close;
 
-// A body that is kept as it came, beside its file.
+// Where a body is kept as it came.
 #[derive(Drop)]
-struct Original {
-    // Where it is prepared.
-    part: String,
-    path: String,
+enum Original {
+    Nowhere,
+    // At this path, beside its file.
+    Beside(String),
+    // Under this name below the folder.
+    Hidden(String),
+}
+
+// Where the body of the file of this name below a folder is kept.
+fn original_of(
+    alloc: Global,
+    folder: &str,
+    name: &str,
+    originals: Originals,
+) -> io::Result<Original> {
+    match originals {
+        Originals::Nowhere => Ok(Original::Nowhere),
+        Originals::Beside => Ok(Original::Beside(format!(in alloc; "{folder}/{name}{ORIGINAL}")?)),
+        Originals::Hidden => Ok(Original::Hidden(format!(in alloc; "{HIDDEN}/{name}")?)),
+    }
 }
 
 /// What becomes of one file of a page.
@@ -28,8 +44,9 @@ pub(crate) struct FileChange {
     path: String,
     // Where that is prepared which takes its place.
     part: String,
-    // None if the body isn't kept.
-    original: Option<Original>,
+    original: Original,
+    // Where that is prepared.
+    original_part: String,
     kind: BodyKind,
     len: u64,
 }
@@ -103,8 +120,7 @@ fn changed<C: BodyChange>(
 }
 
 impl FileChange {
-    // The change of the file of this name below a folder, prepared in a directory of the run's own. Its body is kept beside it if that
-    // is said.
+    // The change of the file of this name below a folder, prepared in a directory of the run's own. Its body is kept where that is said.
     pub(crate) fn new(
         alloc: Global,
         folder: &str,
@@ -112,34 +128,90 @@ impl FileChange {
         place: usize,
         name: &str,
         part: &KeptPart,
-        keeps_original: bool,
+        originals: Originals,
     ) -> io::Result<FileChange> {
-        let path = path_below(alloc, folder, name)?;
-        let original = if keeps_original {
-            Some(Original {
-                part: format!(in alloc; "{own}/part{ORIGINAL}")?,
-                path: format!(in alloc; "{path}{ORIGINAL}")?,
-            })
-        } else {
-            None
-        };
         Ok(FileChange {
             place,
-            path,
+            path: path_below(alloc, folder, name)?,
             part: format!(in alloc; "{own}/part")?,
-            original,
+            original: original_of(alloc, folder, name, originals)?,
+            original_part: format!(in alloc; "{own}/part{ORIGINAL}")?,
             kind: part.kind,
             len: part.len,
         })
     }
 
-    // Reads the body, and writes what is to be in its place, with its time, if that is another one. Whether it did.
-    fn prepare<R: Files, C: BodyChange>(
+    // Keeps this body, which has this time if there is one, in the program's own directory below a folder.
+    fn hide<R: Files>(
         &self,
         rt: &R,
         alloc: Global,
+        folder: &str,
+        known: &mut Known,
+        name: &str,
+        body: &[u8],
+        modified: Option<SystemTime>,
+    ) -> io::Result<()>
+    where
+        R::File: Close,
+    {
+        let path = find_place(rt, alloc, folder, known, name)?;
+        put_by_way_of(
+            rt,
+            self.original_part.as_str(),
+            path.as_str(),
+            body,
+            modified,
+        )
+    }
+
+    // Keeps this body where it is to be kept. A hidden one that can't be kept is forgotten: the next run requests its page again.
+    fn keep<R: Files>(
+        &self,
+        rt: &R,
+        alloc: Global,
+        folder: &str,
+        known: &mut Known,
+        body: &[u8],
+        modified: Option<SystemTime>,
+    ) -> io::Result<()>
+    where
+        R::File: Close,
+    {
+        match &self.original {
+            Original::Nowhere => Ok(()),
+            Original::Beside(path) => {
+                put_by_way_of(
+                    rt,
+                    self.original_part.as_str(),
+                    path.as_str(),
+                    body,
+                    modified,
+                )
+            }
+            Original::Hidden(name) => {
+                if self
+                    .hide(rt, alloc, folder, known, name.as_str(), body, modified)
+                    .is_err()
+                {
+                    known.forget();
+                    let _ = rt.remove_file(self.original_part.as_str());
+                }
+                Ok(())
+            }
+        }
+    }
+
+    // Has the file have what is to be in place of its body, with its time, if that is another one. The body is kept first, so that it is
+    // nowhere missing.
+    fn make<R: Files, C: BodyChange>(
+        &self,
+        rt: &R,
+        alloc: Global,
+        folder: &str,
+        known: &mut Known,
         change: &C,
-    ) -> io::Result<bool>
+    ) -> io::Result<()>
     where
         R::File: Close,
     {
@@ -147,55 +219,34 @@ impl FileChange {
         let mut body = new_room(alloc, self.len)?;
         let Reading::Whole(modified) = read_body(rt, self.path.as_str(), body.as_mut_slice())?
         else {
-            return Ok(false);
+            return Ok(());
         };
-        match changed(alloc, self.place, self.kind, body.as_slice(), change)? {
-            Some(other) => {
-                if let Some(original) = &self.original {
-                    write_new(rt, original.part.as_str(), body.as_slice(), modified)?;
-                }
-                write_new(rt, self.part.as_str(), other.as_slice(), modified)?;
-                Ok(true)
-            }
-            None => Ok(false),
-        }
-    }
-
-    // Has what was prepared take its place: the body that is kept first, so that it is nowhere missing.
-    fn put<R: Files>(&self, rt: &R) -> io::Result<()> {
-        if let Some(original) = &self.original {
-            rt.rename(original.part.as_str(), original.path.as_str())?;
-        }
+        let body = body.as_slice();
+        let Some(other) = changed(alloc, self.place, self.kind, body, change)? else {
+            return Ok(());
+        };
+        write_new(rt, self.part.as_str(), other.as_slice(), modified)?;
+        self.keep(rt, alloc, folder, known, body, modified)?;
         rt.rename(self.part.as_str(), self.path.as_str())
     }
 
-    // Has the file have what is to be in place of its body, if that is another one.
-    fn make<R: Files, C: BodyChange>(&self, rt: &R, alloc: Global, change: &C) -> io::Result<()>
-    where
-        R::File: Close,
-    {
-        if self.prepare(rt, alloc, change)? {
-            self.put(rt)?;
-        }
-        Ok(())
-    }
-
-    // Has the file have what is to be in place of its body. After an error it has the body as it came.
+    // Has the file have what is to be in place of its body; the folder is the one that it is below. After an error it has the body as it
+    // came.
     pub(crate) fn finish<R: Files, C: BodyChange>(
         &self,
         rt: &R,
         alloc: Global,
+        folder: &str,
+        known: &mut Known,
         change: &C,
     ) -> io::Result<()>
     where
         R::File: Close,
     {
-        let made = self.make(rt, alloc, change);
+        let made = self.make(rt, alloc, folder, known, change);
         if made.is_err() {
             // A part that stays is removed before the next file.
-            if let Some(original) = &self.original {
-                let _ = rt.remove_file(original.part.as_str());
-            }
+            let _ = rt.remove_file(self.original_part.as_str());
             let _ = rt.remove_file(self.part.as_str());
         }
         made

@@ -4,7 +4,7 @@ ghost use Rattle.local_tree.specs.Changes.{IsHalfShelvedAsBy};
 ghost use Rattle.local_tree.specs.Folders.{CountsRefusedPut, untold};
 ghost use Rattle.local_tree.specs.Shelves.{AreNamedBy, IsHalfShelvedBy, MakesOnePut};
 
-use super::originals::Originals;
+use super::originals::{Keeping, Originals};
 use super::{DiskFolder, find_place};
 use crate::body_change::BodyChange;
 use crate::disk_folder::file_changes::FileChange;
@@ -47,7 +47,7 @@ where
     fn change_of(&mut self, place: usize, name: &str, part: &KeptPart) -> io::Result<FileChange>
         ensures { self.new ≡ self.old }
     {
-        let keeps_original = self.originals.has(name)?;
+        let originals = self.keeping.place_of(name)?;
         self.make_own()?;
         let Some(own) = &self.own else {
             return Err(Error::from(ErrorKind::NotFound));
@@ -59,16 +59,17 @@ where
             place,
             name,
             part,
-            keeps_original,
+            originals,
         )
     }
 
-    /// From now on the bodies of files that change are kept beside them, except in the place of files with these names, which are all
-    /// that are put.
-    pub fn keep_originals(&mut self, names: &[String])
+    /// From now on the bodies of files that change are kept there as they came, but none in the place of a file with one of these names,
+    /// which are all that are put. If one can't be kept beside its file, that stays as it came; without a hidden one it changes all the
+    /// same.
+    pub fn keep_originals(&mut self, originals: Originals, names: &[String])
         ensures { self.new ≡ self.old }
     {
-        self.originals = Originals::of(self.alloc, names);
+        self.keeping = Keeping::of(self.alloc, originals, names);
     }
 
     // Has the file of this name, which has a part, have what is to be in place of the body. If that fails it stays as it is.
@@ -82,7 +83,13 @@ where
         ensures { self.new ≡ self.old }
     {
         let file = self.change_of(place, name, part)?;
-        file.finish(self.rt, self.alloc, change)
+        file.finish(
+            self.rt,
+            self.alloc,
+            self.prefix.as_str(),
+            &mut self.known_hidden,
+            change,
+        )
     }
 
     // The same, if bodies of that kind have links. Whether the file has that then; if not, the error is kept.

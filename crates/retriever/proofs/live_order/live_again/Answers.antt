@@ -2,6 +2,7 @@
 use Rattle.std.proofs.Common.{ℕ, List, false, inl, inr, refl, subst}
 use Rattle.std.proofs.lemmas.Result.{err_from_is_err_and}
 use Rattle.local_tree.specs.Folders.{holding}
+use Rattle.local_tree.specs.declared.disk_folder.originals.Originals.{Originals}
 use Rattle.site_records.specs.Resumption.{Resuming}
 use Rattle.retriever.specs.Found.{outside}
 use Rattle.retriever.specs.Keeping.{in_memory}
@@ -27,7 +28,7 @@ returns g c =
         given = record {
           made = those.made;
           count = those.count;
-          opened = subst (λ (path : List ℕ). g.S.System.opens c.args.system.now path c.in_ok-folder.folder) c.as_str.ensures c.in_ok-folder.ensures;
+          opened = subst (λ (kept : Originals). g.S.System.opens c.args.system.now c.args.order.now.prefix kept c.in_ok-folder.folder) c.originals_of.ensures (subst (λ (path : List ℕ). g.S.System.opens c.args.system.now path c.originals_of.result c.in_ok-folder.folder) c.as_str.ensures c.in_ok-folder.ensures);
         };
         left = c.live_into.new.folder;
         lives = subst (λ (fs : List (Resuming _)). Lives (resuming_means g.S.Recorder.Fetcher) in_memory c.args.order.now fs before after c.live_into.result) those.are c.live_into.ensures.lives;

@@ -1,6 +1,7 @@
 -- The fetchers and the folder are the system's.
 use Rattle.std.proofs.Common.{◌∙◌, ℕ, List, inl, refl, subst, sym}
 use Rattle.std.proofs.lemmas.Result.{err_from_is_err_and}
+use Rattle.local_tree.specs.declared.disk_folder.originals.Originals.{Originals}
 use Rattle.retriever.proofs.LogLaws.{logged_more}
 use Rattle.retriever.proofs.live_order.live_plainly.Goals as goal
 
@@ -15,7 +16,7 @@ returns g c =
         given = record {
           made = given.made;
           count = sym fetchers.ok.0 ∙ given.count;
-          opened = subst (λ (path : List ℕ). g.S.System.opens c.args.system.now path c.in_ok-folder.folder) c.as_str.ensures c.in_ok-folder.ensures;
+          opened = subst (λ (kept : Originals). g.S.System.opens c.args.system.now c.args.order.now.prefix kept c.in_ok-folder.folder) c.originals_of.ensures (subst (λ (path : List ℕ). g.S.System.opens c.args.system.now path c.originals_of.result c.in_ok-folder.folder) c.as_str.ensures c.in_ok-folder.ensures);
         };
         left = c.live_into.new.folder;
         lives = c.live_into.ensures.lives;

@@ -3,6 +3,7 @@ use Rattle.std.proofs.Common.{ℕ, List, inl, inr, refl, subst, true}
 use Rattle.std.proofs.lemmas.Result.{err_from_is_err_and}
 use Rattle.answer_notes.specs.declared.noted.Noted.{Noted}
 use Rattle.local_tree.specs.Folders.{holding}
+use Rattle.local_tree.specs.declared.disk_folder.originals.Originals.{Originals}
 use Rattle.site_records.specs.Resumption.{Resuming}
 use Rattle.retriever.specs.Rejecting.{IsLogOfCrew}
 use Rattle.retriever.specs.Saving.{LivesSaved, notes_of, noted_within, outside_saved, resuming_means}
@@ -26,7 +27,7 @@ returns-clause-lives g c =
       given = record {
         made = those.made;
         count = those.count;
-        opened = subst (λ (path : List ℕ). g.S.System.opens c.args.system.now path c.in_ok-folder.folder) c.as_str.ensures c.in_ok-folder.ensures;
+        opened = subst (λ (kept : Originals). g.S.System.opens c.args.system.now c.args.order.now.prefix kept c.in_ok-folder.folder) c.originals_of.ensures (subst (λ (path : List ℕ). g.S.System.opens c.args.system.now path c.originals_of.result c.in_ok-folder.folder) c.as_str.ensures c.in_ok-folder.ensures);
       };
       left = c.live_saved-status.new.folder;
       record_begun = c.in_ok-saved.saved;
