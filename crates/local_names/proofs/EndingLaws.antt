@@ -13,7 +13,7 @@ use Rattle.kept_bodies.specs.declared.body_kind.BodyKind.TheVariants.{Html, Shee
 use Rattle.address.specs.Address.{AddressText}
 use Rattle.local_names.specs.declared.rules.NameRules.{NameRules}
 use Rattle.local_names.specs.declared.plain_name.TheConstants.{MAX_SEGMENT}
-use Rattle.local_names.specs.PlainNames.{slash, plain_name_within, plain_name_of}
+use Rattle.local_names.specs.PlainNames.{slash, plain_name_within, plain_name_with, plain_name_of}
 use Rattle.local_names.specs.Endings.{ends_in, ending_for, shows_kind, ended_name, ended_names, ending_size, stem_of, ending_of}
 use Rattle.local_names.specs.Names.{numbered_by}
 
@@ -31,6 +31,24 @@ no_slash_inside [] [] rest none is = cc
 no_slash_inside [] (d ∷ directory) rest none is = cc
 no_slash_inside (b ∷ suffix) [] rest none is = none.0 (let e : b ≡ slash = cc in e)
 no_slash_inside (b ∷ suffix) (d ∷ directory) rest none is = no_slash_inside suffix directory rest none.1 (let e : suffix ≡ directory ++ slash ∷ rest = cc in e)
+
+-- ---- the last byte of a text
+
+-- it, or zero if the text is empty
+abbrev pub final : List ℕ → ℕ
+final [] = 0
+final (b ∷ []) = b
+final (b ∷ c ∷ bs) = final (c ∷ bs)
+
+pub final-append : (xs : List ℕ) (y : ℕ) (ys : List ℕ) → final (xs ++ y ∷ ys) ≡ final (y ∷ ys)
+final-append [] y ys = refl
+final-append (x ∷ []) y ys = refl
+final-append (x ∷ x' ∷ xs) y ys = final-append (x' ∷ xs) y ys
+
+final-lower : (xs : List ℕ) → final (map to_ascii_lowercase xs) ≡ to_ascii_lowercase (final xs)
+final-lower [] = refl
+final-lower (x ∷ []) = refl
+final-lower (x ∷ y ∷ xs) = final-lower (y ∷ xs)
 
 -- ---- how a name ends
 
@@ -65,9 +83,10 @@ pub record IsEnd (name : List ℕ) (size : ℕ) : Type 0 where
   pub fits : size ≤ length name
   pub no_slash : NoSlash (drop (length name - size) name)
   pub boundary : IsCharBoundary name (length name - size)
+  pub no_g : final (drop (length name - size) name) ≢ 103
 
-end_from : (ending rest name : List ℕ) → NoSlash (map to_ascii_lowercase ending) → map to_ascii_lowercase ending ≡ 46 ∷ rest → 1 ≤ length ending → ends_in ending name ≡ true → IsEnd name (length ending)
-end_from ending rest name none dot some e =
+end_from : (ending rest name : List ℕ) → NoSlash (map to_ascii_lowercase ending) → map to_ascii_lowercase ending ≡ 46 ∷ rest → 1 ≤ length ending → final (map to_ascii_lowercase ending) ≢ 103 → ends_in ending name ≡ true → IsEnd name (length ending)
+end_from ending rest name none dot some other e =
     let i = length name - length ending in
     let fits = ends_fit ending name e in
     let lower = ends_lower ending name e in
@@ -76,19 +95,20 @@ end_from ending rest name none dot some e =
       fits = fits;
       no_slash = no_slash_lower (drop i name) (subst NoSlash (sym lower) none);
       boundary = IsCharBoundary-before_ascii name i (omega (arith, fits, some)) (subst (λ b. b < 128) (get_or-drop i name 0 0 ∙ ap (λ k. get_or name k 0) (let same : i + 0 ≡ i = omega arith in same)) low);
+      no_g = λ g. other (ap final (sym lower) ∙ final-lower (drop i name) ∙ ap to_ascii_lowercase g);
     }
 
 differs : (a b : ℕ) → (a == b) ≡ false → a ≢ b
 differs a b test same = both_ways (a == b) test (eq-eqb a b same)
 
 html_end : (name : List ℕ) → ends_in (codes ".html") name ≡ true → IsEnd name 5
-html_end name e = end_from (codes ".html") (codes "html") name (differs 46 47 refl, (differs 104 47 refl, (differs 116 47 refl, (differs 109 47 refl, (differs 108 47 refl, tt))))) refl (omega arith) e
+html_end name e = end_from (codes ".html") (codes "html") name (differs 46 47 refl, (differs 104 47 refl, (differs 116 47 refl, (differs 109 47 refl, (differs 108 47 refl, tt))))) refl (omega arith) (differs 108 103 refl) e
 
 htm_end : (name : List ℕ) → ends_in (codes ".htm") name ≡ true → IsEnd name 4
-htm_end name e = end_from (codes ".htm") (codes "htm") name (differs 46 47 refl, (differs 104 47 refl, (differs 116 47 refl, (differs 109 47 refl, tt)))) refl (omega arith) e
+htm_end name e = end_from (codes ".htm") (codes "htm") name (differs 46 47 refl, (differs 104 47 refl, (differs 116 47 refl, (differs 109 47 refl, tt)))) refl (omega arith) (differs 109 103 refl) e
 
 css_end : (name : List ℕ) → ends_in (codes ".css") name ≡ true → IsEnd name 4
-css_end name e = end_from (codes ".css") (codes "css") name (differs 46 47 refl, (differs 99 47 refl, (differs 115 47 refl, (differs 115 47 refl, tt)))) refl (omega arith) e
+css_end name e = end_from (codes ".css") (codes "css") name (differs 46 47 refl, (differs 99 47 refl, (differs 115 47 refl, (differs 115 47 refl, tt)))) refl (omega arith) (differs 115 103 refl) e
 
 no_end : (name : List ℕ) → IsEnd name 0
 no_end name =
@@ -97,6 +117,7 @@ no_end name =
       fits = omega arith;
       no_slash = subst NoSlash (sym (drop_all (length name - 0) name (omega arith))) tt;
       boundary = subst (IsCharBoundary name) at (IsCharBoundary-end name);
+      no_g = subst (λ end. final end ≢ 103) (sym (drop_all (length name - 0) name (omega arith))) (differs 0 103 refl);
     }
 
 pub ending_is : (name : List ℕ) → IsEnd name (ending_size name)
@@ -213,7 +234,7 @@ pub ended_shows : (rules : NameRules) (kind : BodyKind) (page : AddressText) →
 ended_shows rules kind page =
     let plain = plain_name_of rules page in
     let front = plain_name_within (MAX_SEGMENT - length (ending_for kind)) rules page in
-    cond_both (shows_kind kind plain) plain (front ++ ending_for kind) (λ x. shows_kind kind x ≡ true) (λ e. e) (λ _. added_shows kind front)
+    cond_both (shows_kind kind plain) plain (plain_name_with (ending_for kind) rules page) (λ x. shows_kind kind x ≡ true) (λ e. e) (λ _. added_shows kind front)
 
 -- ---- the plain names of a list
 

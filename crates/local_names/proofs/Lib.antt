@@ -8,3 +8,4 @@ pub mod TakenLaws
 pub mod OrderLaws
 pub mod LeastLaws
 pub mod LocalLaws
+pub mod OriginalLaws

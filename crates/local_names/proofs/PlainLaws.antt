@@ -1,5 +1,5 @@
 -- Plain names of addresses: their segments, that each name made of one stays inside its folder, and how they are written.
-use Rattle.std.proofs.Common.{zero, suc, ◌≡◌, ◌≢◌, ℕ, ◌+◌, ◌-◌, ◌<◌, ◌≤◌, ◌==◌, min, Bool, true, false, not, cond, Option, Some, None, List, [], ◌∷◌, ◌++◌, length, map, get_or, take, drop, codes, All, sym, refl, ap, ◌∙◌, subst, inl, inr, arith, append_assoc}
+use Rattle.std.proofs.Common.{zero, suc, ◌≡◌, ◌≢◌, ℕ, ◌+◌, ◌-◌, ◌<◌, ◌≤◌, ◌==◌, min, Bool, true, false, not, ◌&&◌, cond, Option, Some, None, List, [], ◌∷◌, ◌++◌, length, map, get_or, take, drop, codes, All, sym, refl, ap, ◌∙◌, subst, inl, inr, arith, append_assoc}
 use denote.Ref.{Bor}
 use Rattle.std.proofs.lemmas.Bool.{eqb-true, cond_both, cond-true, cases_lt}
 use Rattle.std.proofs.lemmas.List.{append-nil, map-append, length-map, length-append, nil_from_length, take_rest, drop_all}
@@ -19,7 +19,7 @@ use Rattle.local_names.specs.declared.rules.NameRules.{NameRules}
 use Rattle.kept_bodies.specs.declared.body_kind.BodyKind.{BodyKind}
 use Rattle.kept_bodies.specs.declared.body_kind.BodyKind.TheVariants.{Html, Sheet, Other}
 use Rattle.local_names.specs.declared.plain_name.TheConstants.{MAX_SEGMENT}
-use Rattle.local_names.specs.PlainNames.{slash, is_slash, has_bytes, units_of, marked_units, with_letters, port_mark, query_mark, host_units, dir_segments, path_units, or_index, default_page, file_units, last_units, scheme_segment, host_segment, front_segments, is_part, is_alone, segment_within, local_segment, local_segments, segments_within, plain_name_within, plain_name_of}
+use Rattle.local_names.specs.PlainNames.{slash, is_slash, has_bytes, units_of, marked_units, with_letters, port_mark, query_mark, host_units, dir_segments, path_units, or_index, default_page, file_units, last_units, scheme_segment, host_segment, front_segments, is_part, is_alone, segment_within, local_segment, local_segments, segments_within, plain_name_within, plain_name_with, is_original, plain_name_of}
 use Rattle.local_names.specs.Endings.{shows_kind, ended_name, ended_names, ShowKinds, stem_of, ending_of}
 use Rattle.local_names.specs.Names.{numbered_by, IsNamingBy}
 use Rattle.local_names.specs.LocalNames.{IsInner, StaysInside, IsShort, HasShortSegmentsBy, IsUncontrolled, IsText, IsNoPart}
@@ -365,18 +365,28 @@ html_bytes = segment_bytes_from (codes ".html") refl
 css_bytes : All IsSegmentByte (codes ".css")
 css_bytes = segment_bytes_from (codes ".css") refl
 
+one_bytes : All IsSegmentByte (codes ".1")
+one_bytes = segment_bytes_from (codes ".1") refl
+
+plain_is : (rules : NameRules) (page : AddressText) → IsAddress page → IsPlain MAX_SEGMENT (plain_name_of rules page)
+plain_is rules page is =
+    let plain = plain_name_within MAX_SEGMENT rules page in
+    cond_both (rules.has_originals && is_original plain) (plain_name_with (codes ".1") rules page) plain (IsPlain MAX_SEGMENT)
+    (λ _. with_ending 198 (plain_name_within 198 rules page) (codes "1") one_bytes (omega arith) (within_is 198 rules page (omega arith) is))
+    (λ _. within_is MAX_SEGMENT rules page (omega arith) is)
+
 ended_is : (rules : NameRules) (kind : BodyKind) (page : AddressText) → IsAddress page → IsPlain MAX_SEGMENT (ended_name rules kind page)
 ended_is rules Html page is =
     let plain = plain_name_of rules page in
     let added = plain_name_within 195 rules page ++ codes ".html" in
-    cond_both (shows_kind Html plain) plain added (IsPlain MAX_SEGMENT) (λ _. within_is MAX_SEGMENT rules page (omega arith) is)
+    cond_both (shows_kind Html plain) plain added (IsPlain MAX_SEGMENT) (λ _. plain_is rules page is)
     (λ _. with_ending 195 (plain_name_within 195 rules page) (codes "html") html_bytes (omega arith) (within_is 195 rules page (omega arith) is))
 ended_is rules Sheet page is =
     let plain = plain_name_of rules page in
     let added = plain_name_within 196 rules page ++ codes ".css" in
-    cond_both (shows_kind Sheet plain) plain added (IsPlain MAX_SEGMENT) (λ _. within_is MAX_SEGMENT rules page (omega arith) is)
+    cond_both (shows_kind Sheet plain) plain added (IsPlain MAX_SEGMENT) (λ _. plain_is rules page is)
     (λ _. with_ending 196 (plain_name_within 196 rules page) (codes "css") css_bytes (omega arith) (within_is 196 rules page (omega arith) is))
-ended_is rules Other page is = within_is MAX_SEGMENT rules page (omega arith) is
+ended_is rules Other page is = plain_is rules page is
 
 -- ---- numbered names
 
@@ -425,7 +435,7 @@ numbered_is has name (suc k) plain =
 
 -- each plain name is one
 pub plain_are : (rules : NameRules) (pages : List AddressText) → All IsAddress pages → All (IsPlain MAX_SEGMENT) (map (plain_name_of rules) pages)
-plain_are rules pages addresses = All-map (IsPlain MAX_SEGMENT) (plain_name_of rules) pages (λ i page below. within_is MAX_SEGMENT rules (get_or pages i page) (omega arith) (addresses i page below))
+plain_are rules pages addresses = All-map (IsPlain MAX_SEGMENT) (plain_name_of rules) pages (λ i page below. plain_is rules (get_or pages i page) (addresses i page below))
 
 pub ended_are : (rules : NameRules) (pages : List AddressText) (kinds : List BodyKind) → All IsAddress pages → All (IsPlain MAX_SEGMENT) (ended_names rules pages kinds)
 ended_are rules [] kinds all = All-nil (IsPlain MAX_SEGMENT)

@@ -85,7 +85,7 @@ joined_text first (next ∷ rest) all =
 -- ---- a number after the last segment
 
 -- a digit
-abbrev IsDigit : ℕ → Type 0
+abbrev pub IsDigit : ℕ → Type 0
 IsDigit byte = (48 ≤ byte) × (byte ≤ 57)
 
 glyph_bytes : (d : ℕ) → d < 10 → IsDigit (digit_glyph false d)
@@ -99,7 +99,7 @@ all_digits_onto (suc k) n acc all =
     cond_both (n / 10 == 0) (digit_glyph false (n % 10) ∷ acc) (digits_onto k 10 false (n / 10) (digit_glyph false (n % 10) ∷ acc)) (All IsDigit)
     (λ e. more) (λ e. all_digits_onto k (n / 10) (digit_glyph false (n % 10) ∷ acc) more)
 
-decimal_digits : (n : ℕ) → All IsDigit (decimal n)
+pub decimal_digits : (n : ℕ) → All IsDigit (decimal n)
 unfolding digits
 decimal_digits n = all_digits_onto 64 n [] (All-nil IsDigit)
 

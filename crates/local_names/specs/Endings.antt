@@ -1,12 +1,11 @@
 -- Endings of names, by which a browser knows what a file is (GNU Wget manual, HTTP Options: `--adjust-extension`).
-use Rattle.std.specs.Prelude.{◌≡◌, ℕ, ◌-◌, ◌<◌, ◌||◌, Bool, true, false, List, [], ◌∷◌, ◌++◌, take, drop, length, codes, slice_index_or, if◌then◌else◌}
+use Rattle.std.specs.Prelude.{◌≡◌, ℕ, ◌-◌, ◌<◌, ◌||◌, Bool, true, false, List, [], ◌∷◌, take, drop, length, codes, slice_index_or, if◌then◌else◌}
 use Rattle.std.specs.Str.{str_eq_ignore_ascii_case}
 use Rattle.kept_bodies.specs.declared.body_kind.BodyKind.{BodyKind}
 use Rattle.kept_bodies.specs.declared.body_kind.BodyKind.TheVariants.{Html, Sheet, Other}
 use Rattle.address.specs.Address.{AddressText}
 use Rattle.local_names.specs.declared.rules.NameRules.{NameRules}
-use Rattle.local_names.specs.declared.plain_name.TheConstants.{MAX_SEGMENT}
-use Rattle.local_names.specs.PlainNames.{plain_name_within, plain_name_of}
+use Rattle.local_names.specs.PlainNames.{plain_name_with, plain_name_of}
 
 -- the name ends so, in any case of its letters
 abbrev pub ends_in : List ℕ → List ℕ → Bool
@@ -31,7 +30,7 @@ abbrev pub ended_name : NameRules → BodyKind → AddressText → List ℕ
 ended_name rules kind page =
     if shows_kind kind (plain_name_of rules page)
     then plain_name_of rules page
-    else (plain_name_within (MAX_SEGMENT - length (ending_for kind)) rules page ++ ending_for kind)
+    else plain_name_with (ending_for kind) rules page
 
 -- the plain names of pages whose bodies are of these kinds; of a body without a kind nothing is known
 abbrev pub ended_names : NameRules → List AddressText → List BodyKind → List (List ℕ)

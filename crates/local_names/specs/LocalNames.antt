@@ -1,9 +1,9 @@
 -- What keeps a name inside its folder, and a segment within what disks take.
-use Rattle.std.specs.Prelude.{◌≡◌, ◌≢◌, ℕ, Bool, false, ◌≤◌, List, [], length, codes, All, IsUtf8}
+use Rattle.std.specs.Prelude.{◌≡◌, ◌≢◌, ℕ, Bool, false, ◌≤◌, List, [], ◌++◌, length, codes, All, Contains, IsUtf8}
 use Rattle.std.specs.List.{slice_split}
 use Rattle.local_names.specs.PlainNames.{is_slash, is_control, is_part}
 use Rattle.local_names.specs.Names.{numbered_by}
-use Rattle.local_names.specs.declared.plain_name.TheConstants.{MAX_SEGMENT}
+use Rattle.local_names.specs.declared.plain_name.TheConstants.{MAX_SEGMENT, ORIGINAL}
 
 -- a segment that names something within its directory
 pub record IsInner (segment : List ℕ) : Type 0 where
@@ -42,3 +42,7 @@ pub record IsText (name : List ℕ) : Type 0 where
 -- the name isn't that of a part
 abbrev pub IsNoPart : List ℕ → Type 0
 IsNoPart name = is_part name ≡ false
+
+-- whatever a name is, that of a body as it came, which may be beside its file, is none of these
+abbrev pub LeaveOriginals : List (List ℕ) → Type 0
+LeaveOriginals names = (name : List ℕ) → ¬ Contains names (name ++ ORIGINAL.now)

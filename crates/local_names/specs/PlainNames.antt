@@ -2,7 +2,7 @@
 -- and path becoming directories (GNU Wget manual, Directory Options).
 use Rattle.std.specs.Prelude.{ℕ, Bool, true, false, not, ◌==◌, ◌&&◌, ◌||◌, ◌-◌, nat_eq, nat_lt, Option, Some, None, List, [], ◌∷◌, ◌++◌, map, take, drop, length, codes, string_bytes, if◌then◌else◌}
 use Rattle.std.specs.Char.{encode_utf8, to_ascii_lowercase, to_ascii_uppercase}
-use Rattle.std.specs.List.{slice_split, starts_with, list_all, concat, filter, join_with_byte}
+use Rattle.std.specs.List.{slice_split, starts_with, ends_with, list_all, concat, filter, join_with_byte}
 use Rattle.std.specs.declared.string.String.{String}
 use Rattle.bstr.specs.Utf8.{Decoded, pieces}
 use Rattle.percent_encoding.specs.Percent.{percent_encode_byte, percent_decode}
@@ -11,7 +11,7 @@ use Rattle.local_names.specs.declared.rules.CharRules.{CharRules}
 use Rattle.local_names.specs.declared.rules.LetterCase.{LetterCase}
 use Rattle.local_names.specs.declared.rules.LetterCase.TheVariants.{AsIs, Lower, Upper}
 use Rattle.local_names.specs.declared.rules.NameRules.{NameRules}
-use Rattle.local_names.specs.declared.plain_name.TheConstants.{MAX_SEGMENT, PART}
+use Rattle.local_names.specs.declared.plain_name.TheConstants.{MAX_SEGMENT, ORIGINAL, PART}
 
 -- what is between the segments of a name
 abbrev pub slash : ℕ
@@ -181,6 +181,17 @@ segments_within room rules page =
 unfoldable pub plain_name_within : ℕ → NameRules → AddressText → List ℕ
 plain_name_within room rules page = join_with_byte slash (segments_within room rules page)
 
--- the plain name of a page, whatever its body is
+-- the same with this after it, for which the cut of the last segment leaves room
+abbrev pub plain_name_with : List ℕ → NameRules → AddressText → List ℕ
+plain_name_with end rules page = plain_name_within (MAX_SEGMENT - length end) rules page ++ end
+
+-- the name ends as that of a body as it came, which may be beside the file of its page
+abbrev pub is_original : List ℕ → Bool
+is_original name = ends_with nat_eq name ORIGINAL.now
+
+-- the plain name of a page, whatever its body is: with `.1` after it if it would end so, and names have originals
 abbrev pub plain_name_of : NameRules → AddressText → List ℕ
-plain_name_of rules page = plain_name_within MAX_SEGMENT rules page
+plain_name_of rules page =
+    if rules.has_originals && is_original (plain_name_within MAX_SEGMENT rules page)
+    then plain_name_with (codes ".1") rules page
+    else plain_name_within MAX_SEGMENT rules page

@@ -17,4 +17,5 @@ usual_rules = record {
   cut_dirs = 0;
   default_page = None;
   chars = usual_chars;
+  has_originals = false;
 }

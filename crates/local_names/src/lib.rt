@@ -16,7 +16,7 @@
 
 pub use crate::local_name::is_local_name;
 pub use crate::naming::{ascend, names, names_with_endings};
-pub use crate::plain_name::{MAX_SEGMENT, PART, ended_name, plain_name_of};
+pub use crate::plain_name::{MAX_SEGMENT, ORIGINAL, PART, ended_name, plain_name_of};
 pub use crate::rules::{CharRules, LetterCase, NameRules};
 
 mod ending;

@@ -9,7 +9,7 @@ ghost use Rattle.address.specs.AddressOrder.{IsAscending};
 ghost use Rattle.local_names.specs.PlainNames.{plain_name_of};
 ghost use Rattle.local_names.specs.Endings.{ended_names, stem_of, ShowKinds};
 ghost use Rattle.local_names.specs.Names.{IsNaming, IsNamingBy, AreDistinct, AreApart};
-ghost use Rattle.local_names.specs.LocalNames.{StaysInside, HasShortSegments, HasShortSegmentsBy, IsText, IsNoPart};
+ghost use Rattle.local_names.specs.LocalNames.{StaysInside, HasShortSegments, HasShortSegmentsBy, IsText, IsNoPart, LeaveOriginals};
 ghost use Rattle.local_names.specs.Rules.{usual_rules};
 ghost use Rattle.local_names.specs.Served.{AreServed};
 ghost use Rattle.local_names.specs.inner.Taken.{lent_text, text_cmp, HasSameNames, AreLeast, IsNoted, remembered};
@@ -219,8 +219,9 @@ fn assign(alloc: Global, has_endings: bool, plain: &[String]) -> Result<Vec<Stri
 /// port unless it is the scheme's), the segments of the path, and in the last one, `index.html` if it is
 /// empty, the query. Path and query are decoded once; what no name can have is escaped again. Each
 /// segment is cut to [`MAX_SEGMENT`] bytes. If a name is a directory of another page's, or was given,
-/// `.1`, `.2`, .. is added. A name that would begin as [`PART`](crate::PART) has its first dot escaped. The rules say otherwise of
-/// some of it. The error is out of memory.
+/// `.1`, `.2`, .. is added. A name that would begin as [`PART`](crate::PART) has its first dot escaped, and if the rules have originals,
+/// one that would end as [`ORIGINAL`](crate::ORIGINAL) gets `.1` first. The rules say otherwise of some of it. The error is out of
+/// memory.
 ///
 /// By the usual rules the names of `http://h/a`, `http://h/a/%C3%A4` and `http://h:81/b?c` are `h/a.1`,
 /// `h/a/ä` and `h:81/b?c`.
@@ -241,6 +242,9 @@ pub fn names(alloc: Global, rules: &NameRules, pages: &[Address]) -> Result<Vec<
 
     // None begins as the name of a part does.
     ensures no_part { IfOk result (λ names. All IsNoPart (map string_bytes names.items)) }
+
+    // Each name with `.orig` after it is free if the rules have originals.
+    ensures free { IfOk result (λ names. IsTrue rules.now.has_originals → LeaveOriginals (map string_bytes names.items)) }
 
     // By the usual rules a web server finds the pages by their paths.
     ensures served { IfOk result (λ names. rules.now ≡ usual_rules → AreServed pages.now (map string_bytes names.items)) }
@@ -281,6 +285,9 @@ pub fn names_with_endings(
 
     // None begins as the name of a part does.
     ensures no_part { IfOk result (λ names. All IsNoPart (map string_bytes names.items)) }
+
+    // Each name with `.orig` after it is free if the rules have originals.
+    ensures free { IfOk result (λ names. IsTrue rules.now.has_originals → LeaveOriginals (map string_bytes names.items)) }
 {
     let plain = ended_names(alloc, rules, pages, kinds)?;
     Ok(assign(alloc, true, &plain)?)

@@ -1,9 +1,9 @@
 //! Plain names: the name that a page has if nothing is in its way (GNU Wget manual, Directory
 //! Options).
-ghost use Rattle.std.specs.Prelude.{◌≡◌, ◌≤◌, ◌-◌, ◌++◌, ◌∷◌, [], IfOk, OnOk, map, drop, length, string_bytes};
+ghost use Rattle.std.specs.Prelude.{◌≡◌, ◌≤◌, IfOk, OnOk, map, drop, length, string_bytes};
 ghost use Rattle.address.specs.Address.{IsAddress, port_of, port_text, query_of};
 ghost use Rattle.percent_encoding.specs.Percent.{percent_decode};
-ghost use Rattle.local_names.specs.PlainNames.{is_slash, port_mark, query_mark, host_units, dir_segments, path_units, default_page, file_units, last_units, scheme_segment, host_segment, front_segments, plain_name_within, plain_name_of};
+ghost use Rattle.local_names.specs.PlainNames.{is_slash, port_mark, query_mark, host_units, dir_segments, path_units, default_page, file_units, last_units, scheme_segment, host_segment, front_segments, plain_name_within, is_original, plain_name_with, plain_name_of};
 ghost use Rattle.local_names.specs.Endings.{ending_for, ended_name};
 ghost use Rattle.local_names.specs.inner.Units.{unit_text, lent_bytes, all_below};
 
@@ -21,6 +21,10 @@ pub const MAX_SEGMENT: usize = 200;
 /// How the name of what a run has of its own begins, directly below the folder: of parts, which get a page's name when they are whole,
 /// and of the index of a mirror. No page has a name that begins so.
 pub const PART: &str = ".wgetr%";
+
+/// What the name of a page's body as it came has after that of the page's file. No page has a name that ends so if rules of names
+/// [have originals](NameRules::has_originals).
+pub const ORIGINAL: &str = ".orig";
 
 // The text with its escapes decoded.
 fn decoded(alloc: Global, text: &[u8]) -> Result<Vec<u8>, AllocError>
@@ -236,26 +240,37 @@ fn name_within(
     Ok(name)
 }
 
+// The same with this after it, for which the cut of the last segment leaves room.
+fn name_with(
+    alloc: Global,
+    rules: &NameRules,
+    end: &str,
+    page: &Address,
+) -> Result<String, AllocError>
+    requires { length end.now ≤ 5 }
+    ensures { IfOk result (λ name. string_bytes name ≡ plain_name_with end.now rules.now page.now) }
+{
+    let mut name = name_within(alloc, MAX_SEGMENT - end.len(), rules, page)?;
+    name.push_str(end)?;
+    Ok(name)
+}
+
+// Whether the name ends as that of a body as it came.
+fn is_original(name: &str) -> bool
+    ensures { result ≡ is_original name.now }
+{
+    name.as_bytes().ends_with(ORIGINAL.as_bytes())
+}
+
 /// The name that a page has if nothing is in its way.
 pub fn plain_name_of(alloc: Global, rules: &NameRules, page: &Address) -> Result<String, AllocError>
     ensures name { IfOk result (λ name. string_bytes name ≡ plain_name_of rules.now page.now) }
     ensures address { IfOk result (λ _. IsAddress page.now) }
 {
-    name_within(alloc, MAX_SEGMENT, rules, page)
-}
-
-// The same with the ending of this kind, for which there is room.
-fn name_with_ending(
-    alloc: Global,
-    rules: &NameRules,
-    kind: BodyKind,
-    page: &Address,
-) -> Result<String, AllocError>
-    ensures { IfOk result (λ name. string_bytes name ≡ plain_name_within (MAX_SEGMENT - length (ending_for kind)) rules.now page.now ++ ending_for kind) }
-{
-    let ending = ending_for(kind);
-    let mut name = name_within(alloc, MAX_SEGMENT - ending.len(), rules, page)?;
-    name.push_str(ending)?;
+    let name = name_within(alloc, MAX_SEGMENT, rules, page)?;
+    if rules.has_originals && is_original(name.as_str()) {
+        return name_with(alloc, rules, ".1", page);
+    }
     Ok(name)
 }
 
@@ -273,5 +288,5 @@ pub fn ended_name(
     if shows_kind(kind, name.as_str()) {
         return Ok(name);
     }
-    name_with_ending(alloc, rules, kind, page)
+    name_with(alloc, rules, ending_for(kind), page)
 }

@@ -54,6 +54,8 @@ pub struct NameRules {
     pub default_page: Option<String>,
     /// Which characters a name has.
     pub chars: CharRules,
+    /// No name ends as [`ORIGINAL`](crate::ORIGINAL), so each name with that after it is free for the body of its page as it came.
+    pub has_originals: bool,
 }
 
 /// Each character is kept as it is.
@@ -81,6 +83,7 @@ impl Default for NameRules {
             cut_dirs: 0,
             default_page: None,
             chars: CharRules::default(),
+            has_originals: false,
         }
     }
 }

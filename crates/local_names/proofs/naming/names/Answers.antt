@@ -5,6 +5,7 @@ use Rattle.local_names.specs.PlainNames.{plain_name_of}
 use Rattle.local_names.specs.Names.{IsNaming}
 use Rattle.local_names.specs.LocalNames.{StaysInside, HasShortSegments, IsUncontrolled, IsNoPart}
 use Rattle.local_names.proofs.NamingLaws.{IsNaming-sole, IsNaming-distinct, IsNaming-apart}
+use Rattle.local_names.proofs.OriginalLaws.{all_plain_end, names_leave}
 use Rattle.local_names.proofs.PlainLaws.{plain_are, all_names, made_stays_inside, made_text, texts}
 use Rattle.local_names.proofs.ServedLaws.{served_names}
 use Rattle.local_names.proofs.naming.names.Goals as goal
@@ -28,5 +29,6 @@ returns c =
       short = all_names HasShortSegments false plain names naming are (λ name is. is.short);
       text = texts c.in_ok-assign.field-0.items (all_names (All IsUncontrolled) false plain names naming are (λ name is. made_text name is.made));
       no_part = all_names IsNoPart false plain names naming are (λ name is. is.no_part);
+      free = λ on. names_leave false plain names naming (all_plain_end rules pages on);
       served = λ usual. served_names pages names (subst (λ r. IsNaming (map (plain_name_of r) pages) names) usual naming) addresses;
     }
