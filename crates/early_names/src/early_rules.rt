@@ -60,6 +60,7 @@ impl EarlyRules {
                 cut_dirs: names.cut_dirs,
                 default_page: copy_of(alloc, &names.default_page)?,
                 chars: names.chars,
+                has_originals: names.has_originals,
             },
             has_endings,
         })

@@ -1,5 +1,5 @@
 -- What shapes names, as the options say it (GNU Wget manual, chapters Directory Options, HTTP Options and Download Options).
-use Rattle.std.specs.Prelude.{◌||◌, ◌==◌, ℕ, Bool, true, false, not, List, [], ◌∷◌, Option, Some, None, bytes_eq, codes, length, nat_lt, option_and_then, option_map, string_bytes, if◌then◌else◌}
+use Rattle.std.specs.Prelude.{◌&&◌, ◌||◌, ◌==◌, ℕ, Bool, true, false, not, List, [], ◌∷◌, Option, Some, None, bytes_eq, codes, length, nat_lt, option_and_then, option_map, string_bytes, if◌then◌else◌}
 use Rattle.std.specs.List.{list_any}
 use Rattle.std.specs.Option.{option_map_or}
 use Rattle.clap.specs.Walk.{Row, Text, first_of}
@@ -20,6 +20,7 @@ pub record Naming : Type 0 where
   pub cut_dirs : ℕ
   pub default_page : Option Text
   pub chars : CharRules
+  pub has_originals : Bool
   pub has_endings : Bool
 
 -- what is said of how files are named
@@ -31,6 +32,7 @@ naming_by names = record {
   cut_dirs = names.rules.cut_dirs;
   default_page = option_map string_bytes names.rules.default_page;
   chars = names.rules.chars;
+  has_originals = names.rules.has_originals;
   has_endings = names.has_endings;
 }
 
@@ -91,6 +93,10 @@ chars_of found = option_map (with_modes usual_chars) (list_of read_mode (codes "
 abbrev pub has_endings : List Row → Bool
 has_endings found = is_set (codes "adjust-extension") found || is_set (codes "html-extension") found
 
+-- the bodies of files whose links change are kept beside them, which needs both options
+abbrev pub has_originals : List Row → Bool
+has_originals found = is_set (codes "convert-links") found && is_set (codes "backup-converted") found
+
 -- the directories are those of the address, unless options say otherwise
 abbrev pub naming : List Row → ℕ → Option Text → CharRules → Naming
 naming found cut page chars = record {
@@ -100,6 +106,7 @@ naming found cut page chars = record {
   cut_dirs = cut;
   default_page = page;
   chars = chars;
+  has_originals = has_originals found;
   has_endings = has_endings found;
 }
 

@@ -4,7 +4,7 @@ ghost use Rattle.std.specs.Prelude.{◌≡◌, ◌⊎◌, MatchOption, MatchResu
 ghost use Rattle.std.specs.List.{list_any};
 ghost use Rattle.clap.specs.Words.{first_of, found_of, rows_of};
 ghost use Rattle.local_names.specs.Rules.{usual_chars};
-ghost use Rattle.options.specs.Naming.{chars_of, cut_by, has_endings, is_file_name, is_unsafe, naming_by, naming_of, page_by, read_mode, with_mode, with_modes};
+ghost use Rattle.options.specs.Naming.{chars_of, cut_by, has_endings, has_originals, is_file_name, is_unsafe, naming_by, naming_of, page_by, read_mode, with_mode, with_modes};
 ghost use Rattle.options.specs.Asked.{words_refused};
 ghost use Rattle.options.specs.declared.fault.LineFault.TheVariants as fault;
 
@@ -167,6 +167,13 @@ fn has_endings(matches: &ArgMatches) -> bool
     is_set(matches, "adjust-extension") || is_set(matches, "html-extension")
 }
 
+// Whether the bodies of files whose links change are kept beside them as they came.
+fn has_originals(matches: &ArgMatches) -> bool
+    ensures { result ≡ has_originals (rows_of (found_of matches.now)) }
+{
+    is_set(matches, "convert-links") && is_set(matches, "backup-converted")
+}
+
 /// What the options say of names. The fault is that a value can't be, or that memory ran out.
 #[tactic(auto, unfolding(crate::specs::Naming::naming_of))]
 pub(crate) fn names(alloc: Global, matches: &ArgMatches) -> Result<PageNames, LineFault>
@@ -186,6 +193,7 @@ pub(crate) fn names(alloc: Global, matches: &ArgMatches) -> Result<PageNames, Li
         cut_dirs,
         default_page,
         chars,
+        has_originals: has_originals(matches),
     };
     Ok(PageNames {
         rules,
