@@ -1,5 +1,5 @@
 -- The files that go are the same for other lists of the same names.
-use Rattle.std.proofs.Common.{◌≡◌, ◌∙◌, ◌&&◌, ◌||◌, Bool, true, false, not, List, [], ◌∷◌, ◌++◌, cond, codes, refl, sym, ap}
+use Rattle.std.proofs.Common.{◌≡◌, ◌∙◌, ◌&&◌, ◌||◌, Bool, true, false, not, List, [], ◌∷◌, ◌++◌, append_assoc, cond, codes, refl, sym, ap}
 use Rattle.std.specs.List.{filter, list_any}
 use Rattle.std.specs.List.Sorted.{IsPermutation}
 use Rattle.std.proofs.lemmas.List.Elements.{filter_agree}
@@ -9,6 +9,19 @@ use Rattle.mirror_index.specs.Entries.{Entry, Text}
 use Rattle.mirror_upkeep.specs.Leaving.{files, files_of, is_gone, is_to_go, originals_of, other_name}
 use Rattle.mirror_upkeep.specs.Names.{has_name, is_directory_of, is_in_way}
 use Rattle.mirror_upkeep.proofs.NameLaws.{has_moved}
+
+-- the files so far and those of the rest are all, after one more entry that goes
+pub one_more : (backs_up : Bool) (names : List Text) (goes : Entry → Bool) (e : Entry) (later rest : List Entry) (old new all : List Text)
+    → rest ≡ e ∷ later → goes e ≡ true → new ≡ old ++ files_of backs_up names e.name
+    → old ++ files backs_up names (filter goes rest) ≡ all → new ++ files backs_up names (filter goes later) ≡ all
+one_more backs_up names goes e later rest old new all begins this added before =
+    let after = files backs_up names (filter goes later) in
+    let with_this : filter goes (e ∷ later) ≡ e ∷ filter goes later = ap (λ (b : Bool). cond b (e ∷ filter goes later) (filter goes later)) this in
+    ap (λ (ns : List Text). ns ++ after) added
+    ∙ append_assoc old (files_of backs_up names e.name) after
+    ∙ ap (λ (es : List Entry). old ++ files backs_up names es) (sym with_this)
+    ∙ ap (λ (es : List Entry). old ++ files backs_up names (filter goes es)) (sym begins)
+    ∙ before
 
 module _ (xs ys : List Text) (moved : IsPermutation ys xs) where
   same_has : (name : Text) → has_name xs name ≡ has_name ys name

@@ -155,8 +155,7 @@ EndsFound {B = B} crew order old new (Torn lines whole) =
 EndsFound {B = B} crew order old new (Unchanged lines) =
     (m : Answers) × (bodies : List B) × IsReportFound crew order m lines bodies × IsPutAt order.converts false crew.keeps m lines bodies old new
 EndsFound crew order old new (Finished (Stopped cause.Full)) = (m : Answers) × IsPartFound crew order.plan m × HasTooMany (policy order.plan) m × (new ≡ old)
-EndsFound {B = B} crew order old new (Finished (Stopped cause.Memory)) =
-    AreMadeOnce (asks_of crew)
+EndsFound {B = B} crew order old new (Finished (Stopped cause.Memory)) = AreMadeOnce (asks_of crew)
     × ((new ≡ old) ⊎ ((m : Answers) × (lines : List Line) × (bodies : List B) × (whole : ℕ) × IsReportFound crew order m lines bodies
     × IsTornAt order.converts crew.keeps m lines bodies old new whole))
 EndsFound crew order old new (Finished (Stopped cause.Mismatch)) = (length crew.first ≢ 1) × (new ≡ old)
