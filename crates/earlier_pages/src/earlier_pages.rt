@@ -2,11 +2,12 @@
 ghost use Rattle.std.specs.Prelude.{◌≡◌, IfSome};
 ghost use Rattle.mirror_index.specs.Indexes.{HasThis};
 
+use crate::change_time::changed_at;
 use crate::earlier_page::EarlierPage;
 use address::Address;
-use mirror_index::{Entry, MirrorIndex};
+use mirror_index::{Entry, Mark, MirrorIndex};
 use std::alloc::Global;
-use std::fs::{File, Files};
+use std::fs::{File, Files, Metadata};
 use std::marker::Model;
 
 /// The pages of an earlier run, by the index that it left in their folder.
@@ -27,10 +28,22 @@ impl Model for EarlierPages {
     ghost view = { λ p. p.index };
 }
 
-// The file at a path, if it has so many bytes. A link isn't followed, and nothing but a file is opened.
-fn file_at<R: Files>(rt: &R, path: &str, size: u64) -> Option<R::File> {
+// Whether what is found at a path may be the file of an entry: it has as many bytes, and wasn't changed since if the entry says when it
+// was changed last.
+fn may_be_of(found: &Metadata, entry: &Entry) -> bool {
+    if !found.is_file() || found.len() != entry.size() {
+        return false;
+    }
+    match entry.mark() {
+        Mark::Digest(_) => true,
+        Mark::Changed(time) => changed_at(found) == Some(time),
+    }
+}
+
+// The file at a path, if it may be that of an entry. A link isn't followed, and nothing but a file is opened.
+fn file_at<R: Files>(rt: &R, path: &str, entry: &Entry) -> Option<R::File> {
     let found = rt.symlink_metadata(path).ok()?;
-    if found.is_file() && found.len() == size {
+    if may_be_of(&found, entry) {
         File::open(rt, path).ok()
     } else {
         None
@@ -56,17 +69,18 @@ impl EarlierPages {
         &self.index
     }
 
-    // The file of an entry's name with this before it and this ending, if it has as many bytes as the entry's had.
+    // The file of an entry's name with this before it and this ending, if it may be the entry's.
     fn file<R: Files>(&self, rt: &R, entry: &Entry, before: &str, ending: &str) -> Option<R::File> {
         let folder = self.folder.as_str();
         let name = entry.name();
         let path = format!(in self.alloc; "{folder}/{before}{name}{ending}").ok()?;
-        file_at(rt, path.as_str(), entry.size())
+        file_at(rt, path.as_str(), entry)
     }
 
-    /// The page of an address, if one was kept and its file has as many bytes as it had: whether they are the same, who reads them finds
-    /// out. Its file is what was kept of it before its links were changed, beside it or else in the program's own directory, or else the one
-    /// of its own name; if several have so many bytes, the next is its other. What can't be opened isn't there.
+    /// The page of an address, if one was kept and its file has as many bytes as it had, and wasn't changed since if the entry says when it
+    /// was changed last; otherwise who reads its bytes finds out whether they are the same. Its file is what was kept of it before its links
+    /// were changed, beside it or else in the program's own directory, or else the one of its own name; if several have so many bytes, the
+    /// next is its other. What can't be opened isn't there.
     pub fn page<R: Files>(&self, rt: &R, at: &Address) -> Option<EarlierPage<'_, R::File>>
         ensures { IfSome result (λ page. HasThis self.now at.now page.entry) }
     {

@@ -1,6 +1,6 @@
 //! Pages that an earlier run left in a folder. Its one idea: a page of an earlier run is read like a response. It is there if its file has
-//! as many bytes as it had; whether they are the same, who reads it finds out by their SHA-256, so that no file is read twice. If several files
-//! may be its, the next is read only if those before it have other bytes.
+//! as many bytes as it had; whether they are the same, who reads it finds out by their SHA-256, so that no file is read twice, or its entry
+//! says when the file was changed last. If several files may be its, the next is read only if those before it have other bytes.
 //!
 //! ```
 //! let Some(mut page) = earlier.page(rt, &at) else { .. }; // to be requested as if nothing was there
@@ -10,10 +10,12 @@
 //! ```
 #![tactic(auto)]
 
+mod change_time;
 mod earlier_page;
 mod earlier_pages;
 mod recorded_stream;
 
+pub use crate::change_time::changed_at;
 pub use crate::earlier_page::EarlierPage;
 pub use crate::earlier_pages::EarlierPages;
 pub use crate::recorded_stream::RecordedStream;

@@ -5,11 +5,12 @@ ghost use Rattle.host_system.specs.declared.index_run.BeginFault.TheVariants.{Un
 use crate::journal::{JOURNAL, LeftJournal, SharedJournal, is_nothing, left_at};
 use crate::shared_failures::SharedFailures;
 use address::Address;
-use earlier_pages::EarlierPages;
+use earlier_pages::{EarlierPages, changed_at};
 use harvest::Harvest;
-use mirror_index::{Entry, IndexFault, MAX_INDEX, MirrorIndex, read_index, write_index};
+use local_names::ORIGINAL;
+use mirror_index::{Entry, IndexFault, MAX_INDEX, Mark, MirrorIndex, read_index, write_index};
 use mirror_upkeep::{
-    first_line, gone, in_way, is_anothers, is_sure, joined, named_pages, places_by_name,
+    first_line, gone, in_way, is_anothers, is_sure, joined, named_pages, places_by_name, push_entry,
 };
 use options::{Order, Upkeep};
 use part_keeper::KeptPart;
@@ -51,6 +52,8 @@ struct Begun {
     upkeep: Upkeep,
     // Whether bodies are kept beside files whose links change.
     backs_up: bool,
+    // The same, and links do change, so that no page has the name of such a body.
+    has_originals: bool,
     earlier: Arc<Earlier>,
     // The places of the earlier pages' entries, in the order of their names.
     by_name: Vec<usize>,
@@ -63,7 +66,7 @@ fn keeps_index(upkeep: Upkeep) -> bool
     upkeep.timestamps || upkeep.skips
 }
 
-// Whether nothing of what earlier runs left is taken, and nothing is left for later ones.
+// Whether nothing of what earlier runs left is taken.
 fn takes_nothing(upkeep: Upkeep) -> bool
     ensures { result ≡ not (upkeep.continues || upkeep.timestamps || upkeep.skips) }
 {
@@ -242,16 +245,66 @@ fn index_of<R: Files + Wait>(
     Ok(MirrorIndex::new(alloc))
 }
 
-// The entry of a noted page, which has this name.
-fn entry_of(alloc: Global, note: IndexNote, name: &str) -> Result<Entry, AllocError> {
+// The entry of a noted page, which has this name and this mark.
+fn entry_of(alloc: Global, note: IndexNote, name: &str, mark: Mark) -> Result<Entry, AllocError> {
     let name = String::from_str(alloc, name)?;
     let IndexNote {
         at,
         len,
-        digest,
+        digest: _digest,
         head,
     } = note;
-    Ok(Entry::new(at, name, len, digest, head))
+    Ok(Entry::new(at, name, len, mark, head))
+}
+
+// By what one sees later that a page's file has the bytes of its body: their digest, or when the file of this name was changed last. None if
+// no digest was computed and the page has no file yet.
+fn mark_of<R: Files>(
+    rt: &R,
+    alloc: Global,
+    folder: &str,
+    name: Option<&str>,
+    digest: Option<[u8; 32]>,
+) -> io::Result<Option<Mark>> {
+    if let Some(digest) = digest {
+        return Ok(Some(Mark::Digest(digest)));
+    }
+    let Some(name) = name else {
+        return Ok(None);
+    };
+    let path = own_path(alloc, folder, name)?;
+    let found = rt.symlink_metadata(path.as_str())?;
+    match changed_at(&found) {
+        Some(time) => Ok(Some(Mark::Changed(time))),
+        None => Ok(None),
+    }
+}
+
+// The names of files that a run put, and those of the bodies that it may have kept beside them.
+fn put_names(
+    alloc: Global,
+    names: &[String],
+    has_originals: bool,
+) -> Result<Vec<String>, AllocError> {
+    let mut all = Vec::new(alloc);
+    for name in names {
+        let name = name.as_str();
+        all.push(String::from_str(alloc, name)?)?;
+        if has_originals {
+            all.push(format!(in alloc; "{name}{ORIGINAL}")?)?;
+        }
+    }
+    Ok(all)
+}
+
+// The names of the files of gone pages, by those that a run put; none if no file is to be removed.
+fn gone_of(alloc: Global, begun: &Begun, names: &[String]) -> Result<Vec<String>, AllocError> {
+    if !begun.upkeep.deletes_gone {
+        return Ok(Vec::new(alloc));
+    }
+    let put = put_names(alloc, names, begun.has_originals)?;
+    let earlier = begun.earlier.pages.index();
+    gone(alloc, earlier.entries(), put.as_slice(), begun.backs_up)
 }
 
 // Writes the index of a folder in the run's own directory, and puts it in its place when it is whole.
@@ -426,12 +479,11 @@ impl<F: Drop> IndexRun<F> {
                 "-c goes on with it",
             )?;
         }
-        let journal = if takes_nothing(order.upkeep) {
-            SharedJournal::left_alone(self.alloc, path, left)
-        } else if order.upkeep.continues {
-            SharedJournal::of(path, first, left).going_on(self.alloc, &pages)?
+        let journal = SharedJournal::of(path, first, left, takes_nothing(order.upkeep));
+        let journal = if order.upkeep.continues {
+            journal.going_on(self.alloc, &pages)?
         } else {
-            SharedJournal::of(path, first, left)
+            journal
         };
         set_journal(&mut self.journal.lock(rt), journal);
         Ok(pages)
@@ -484,6 +536,7 @@ impl<F: Drop> IndexRun<F> {
             folder,
             upkeep,
             backs_up: order.backs_up,
+            has_originals: order.names.rules.has_originals,
             by_name: places_by_name(self.alloc, earlier.pages.index().entries())?,
             earlier,
         };
@@ -492,8 +545,8 @@ impl<F: Drop> IndexRun<F> {
         Ok(())
     }
 
-    /// What is known of earlier runs' pages, once a run began that takes of it or leaves for later ones. Without it no body is digested,
-    /// which would cost a third of a run.
+    /// What is known of earlier runs' pages, once a run began that takes of it. Without it no body is digested, which would cost a third of a
+    /// run: its journal says when files were changed last.
     pub(crate) fn earlier<R: Wait>(&self, rt: &R) -> Option<Arc<Earlier>> {
         let begun = shared(&mut self.begun.lock(rt))?;
         if takes_nothing(begun.upkeep) {
@@ -525,15 +578,25 @@ impl<F: Drop> IndexRun<F> {
     where
         F: Write + Lock,
     {
-        let entry = entry_of(self.alloc, note, name.unwrap_or(""))?;
+        let Some(begun) = shared(&mut self.begun.lock(rt)) else {
+            return Ok(());
+        };
+        let folder = begun.folder.as_str();
+        let Some(mark) = mark_of(rt, self.alloc, folder, name, note.digest)? else {
+            return Ok(());
+        };
+        let entry = entry_of(self.alloc, note, name.unwrap_or(""), mark)?;
         if name.is_some() {
-            self.journal.lock(rt).add(rt, self.alloc, own, &entry)?;
+            let mut line = Vec::new(self.alloc);
+            push_entry(self.alloc, &mut line, &entry)?;
+            self.journal
+                .lock(rt)
+                .add(rt, self.alloc, own, line.as_slice())?;
         }
-        let begun = shared(&mut self.begun.lock(rt));
-        match begun {
-            Some(begun) if keeps_index(begun.upkeep) => Ok(push(&mut self.pages.lock(rt), entry)?),
-            _ => Ok(()),
+        if keeps_index(begun.upkeep) {
+            push(&mut self.pages.lock(rt), entry)?;
         }
+        Ok(())
     }
 
     /// Notes a page that has this name early, if it has one, for the journal and for the index; `own` is the run's own directory. A page
@@ -590,10 +653,7 @@ impl<F: Drop> IndexRun<F> {
         let earlier = begun.earlier.pages.index();
         let put = Put {
             pages: named_pages(self.alloc, pages.as_slice(), harvest.kept(), names)?,
-            gone: match removes {
-                true => gone(self.alloc, earlier.entries(), names, begun.backs_up)?,
-                false => Vec::new(self.alloc),
-            },
+            gone: gone_of(self.alloc, &begun, names)?,
             is_sure: removes && is_sure(harvest, earlier),
         };
         set(&mut self.put.lock(rt), put);

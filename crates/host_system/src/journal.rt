@@ -1,11 +1,12 @@
-//! The journal of a run, below its folder: the pages whose files are there already, so that another run goes on if this one is stopped.
+//! The journal of each run, below its folder: the pages whose files are there already, so that another run goes on if this one is stopped.
 //! Its first line has its version and the STARTs, and each further one is an entry as the index has them, added in one write.
-use mirror_index::{Entry, MAX_INDEX, MirrorIndex};
+use mirror_index::{MAX_INDEX, MirrorIndex};
 use mirror_upkeep::{push_entry, read_journal, reason};
 use std::alloc::{AllocError, Global};
-use std::fs::{File, Files};
+use std::fs::{File, Files, OpenFile};
 use std::io;
 use std::io::{ErrorKind, Write};
+use std::os::unix::fs::MetadataExt;
 use streams::{Close, Lock, ReadInputFault, read_input};
 
 /// What it is called, directly below the folder. No page has a name that begins so.
@@ -77,6 +78,29 @@ where
     pages_in(alloc, file, first)
 }
 
+// Whether a run that is at work has its journal at a path.
+fn is_theirs<R: Files>(rt: &R, path: &str) -> bool
+where
+    R::File: Lock,
+{
+    match rt.symlink_metadata(path) {
+        Ok(found) if found.is_file() => {}
+        _ => return false,
+    }
+    match File::open(rt, path) {
+        Ok(file) => !file.hold().unwrap_or(true),
+        Err(_) => false,
+    }
+}
+
+// Whether an open file is still the one at a path: another run may have put its own there.
+fn is_at<R: Files>(rt: &R, file: &R::File, path: &str) -> bool {
+    match (file.metadata(), rt.symlink_metadata(path)) {
+        (Ok(opened), Ok(found)) => opened.dev() == found.dev() && opened.ino() == found.ino(),
+        _ => false,
+    }
+}
+
 /// The journal of a run, to which its workers add under a lock.
 #[derive(Drop)]
 pub(crate) struct SharedJournal<F: Drop> {
@@ -88,7 +112,7 @@ pub(crate) struct SharedJournal<F: Drop> {
     // The one that was left at its place, which is held until it is replaced.
     left: Option<F>,
     // Whether that is removed at the end, if this run has none of its own.
-    continues: bool,
+    removes_left: bool,
     // None before the first page.
     file: Option<F>,
 }
@@ -114,36 +138,30 @@ impl<F: Drop> SharedJournal<F> {
             is_open: false,
             front: Vec::new(alloc),
             left: None,
-            continues: false,
+            removes_left: false,
             file: None,
         }
     }
 
-    /// One at this path that begins with this line, in place of the one that was left there, which is held until then.
-    pub(crate) fn of(path: String, first: Vec<u8>, left: Option<F>) -> SharedJournal<F> {
+    /// One at this path that begins with this line, in place of the one that was left there, which is held until then. If nothing was added
+    /// when the run has ended well, the one that was left is removed if `removes_left`.
+    pub(crate) fn of(
+        path: String,
+        first: Vec<u8>,
+        left: Option<F>,
+        removes_left: bool,
+    ) -> SharedJournal<F> {
         SharedJournal {
             path,
             is_open: true,
             front: first,
             left,
-            continues: false,
+            removes_left,
             file: None,
         }
     }
 
-    /// The one that was left at this path, to which nothing is added. It is held, and removed if the run ends well.
-    pub(crate) fn left_alone(alloc: Global, path: String, left: Option<F>) -> SharedJournal<F> {
-        SharedJournal {
-            path,
-            is_open: false,
-            front: Vec::new(alloc),
-            left,
-            continues: true,
-            file: None,
-        }
-    }
-
-    /// The same, which begins with these pages of the one that was left, too.
+    /// The same, which begins with these pages of the one that was left, too, and is removed with it.
     pub(crate) fn going_on(
         self,
         alloc: Global,
@@ -153,17 +171,33 @@ impl<F: Drop> SharedJournal<F> {
         for entry in pages.entries() {
             push_entry(alloc, &mut journal.front, entry)?;
         }
-        journal.continues = true;
+        journal.removes_left = true;
         Ok(journal)
     }
 
-    /// Adds an entry, by way of the run's own directory if it is the first. After an error nothing more is added.
+    // Makes it in the run's own directory, unless another run that is at work has its own there by now. Whether it did.
+    fn begin<R: Files<File = F>>(&mut self, rt: &R, alloc: Global, own: &str) -> io::Result<bool>
+    where
+        F: Write + Lock,
+    {
+        let path = self.path.as_str();
+        if self.left.is_none() && is_theirs(rt, path) {
+            return Ok(false);
+        }
+        let file = make(rt, alloc, own, path, self.front.as_slice())?;
+        self.left = None;
+        self.front = Vec::new(alloc);
+        self.file = Some(file);
+        Ok(true)
+    }
+
+    /// Adds the line of an entry, by way of the run's own directory if it is the first. After an error nothing more is added.
     pub(crate) fn add<R: Files<File = F>>(
         &mut self,
         rt: &R,
         alloc: Global,
         own: &str,
-        entry: &Entry,
+        line: &[u8],
     ) -> io::Result<()>
     where
         F: Write + Lock,
@@ -171,38 +205,27 @@ impl<F: Drop> SharedJournal<F> {
         if !self.is_open {
             return Ok(());
         }
-        let added = self.try_add(rt, alloc, own, entry);
-        self.is_open = added.is_ok();
-        added
-    }
-
-    fn try_add<R: Files<File = F>>(
-        &mut self,
-        rt: &R,
-        alloc: Global,
-        own: &str,
-        entry: &Entry,
-    ) -> io::Result<()>
-    where
-        F: Write + Lock,
-    {
-        let mut line = Vec::new(alloc);
-        push_entry(alloc, &mut line, entry)?;
-        if let Some(file) = &mut self.file {
-            return file.write_all(line.as_slice());
+        // It is open again if this one is added.
+        self.is_open = false;
+        if self.file.is_none() && !self.begin(rt, alloc, own)? {
+            return Ok(());
         }
-        let mut file = make(rt, alloc, own, self.path.as_str(), self.front.as_slice())?;
-        self.left = None;
-        self.front = Vec::new(alloc);
-        let added = file.write_all(line.as_slice());
-        self.file = Some(file);
-        added
+        if let Some(file) = &mut self.file {
+            file.write_all(line)?;
+        }
+        self.is_open = true;
+        Ok(())
     }
 
     /// Takes it away, and the one that it goes on from: the run has ended well.
     pub(crate) fn remove<R: Files<File = F>>(&mut self, rt: &R) {
-        if self.file.is_some() || (self.continues && self.left.is_some()) {
-            let _ = rt.remove_file(self.path.as_str());
+        let path = self.path.as_str();
+        let is_own = match &self.file {
+            Some(file) => is_at(rt, file, path),
+            None => self.removes_left && self.left.is_some(),
+        };
+        if is_own {
+            let _ = rt.remove_file(path);
         }
         self.is_open = false;
         self.file = None;

@@ -30,7 +30,7 @@ not_at b [] (suc k) none other = other
 not_at b (x ∷ xs) zero none other = none.0
 not_at b (x ∷ xs) (suc k) none other = not_at b xs k none.1 other
 
-encoded_lacks : (b : ℕ) → Lacks b lower_digits → 0 ≢ b → (xs : List ℕ) → Lacks b (encode_lower xs)
+pub encoded_lacks : (b : ℕ) → Lacks b lower_digits → 0 ≢ b → (xs : List ℕ) → Lacks b (encode_lower xs)
 unfolding encode_with
 encoded_lacks b none other [] = tt
 encoded_lacks b none other (x ∷ xs) = (not_at b lower_digits _ none other, (not_at b lower_digits _ none other, encoded_lacks b none other xs))

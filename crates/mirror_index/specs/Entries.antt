@@ -8,6 +8,8 @@ use Rattle.hex.specs.Hex.{IsBytes, encode_lower}
 use Rattle.local_names.specs.LocalNames.{StaysInside}
 use Rattle.local_names.specs.PlainNames.{is_control}
 use Rattle.sha2.specs.Sha256.{sha256}
+use Rattle.mirror_index.specs.declared.entry.Mark.{Mark}
+use Rattle.mirror_index.specs.declared.entry.Mark.TheVariants.{Changed, Digest}
 use Rattle.mirror_index.specs.declared.entry.TheConstants.{MAX_LINE}
 
 abbrev pub Text : Type 0
@@ -20,12 +22,13 @@ pub record KeptHead : Type 0 where
   pub etag : Option Text
   pub last_modified : Option Text
 
--- a page that is kept: its address, the name of its file, how many bytes that has and their SHA-256, and what was said with it
+-- a page that is kept: its address, the name of its file, how many bytes that has and by what one sees that they are the same, and what was
+-- said with it
 pub record Entry : Type 0 where
   pub address : AddressText
   pub name : Text
   pub size : ℕ
-  pub digest : List ℕ
+  pub mark : Mark
   pub head : KeptHead
 
 -- ---- the line
@@ -38,8 +41,13 @@ value_field (Some value) = 61 ∷ value
 abbrev pub head_fields : KeptHead → List Text
 head_fields t = decimal t.status ∷ value_field t.content_type ∷ value_field t.etag ∷ value_field t.last_modified ∷ []
 
+-- the digits of a digest, or a time after `@`
+abbrev pub mark_field : Mark → Text
+mark_field (Digest digest) = encode_lower digest
+mark_field (Changed time) = 64 ∷ decimal time
+
 abbrev pub entry_fields : Entry → List Text
-entry_fields e = e.address ∷ e.name ∷ decimal e.size ∷ encode_lower e.digest ∷ head_fields e.head
+entry_fields e = e.address ∷ e.name ∷ decimal e.size ∷ mark_field e.mark ∷ head_fields e.head
 
 -- what shows that a text wasn't damaged
 unfoldable pub check_of : Text → Text
@@ -66,12 +74,17 @@ pub record IsDigest (digest : List ℕ) : Type 0 where
   pub size : length digest ≡ 32
   pub bytes : IsBytes digest
 
+-- a digest, or a number of 64 bits
+abbrev pub IsMark : Mark → Type 0
+IsMark (Digest digest) = IsDigest digest
+IsMark (Changed time) = time < 2 ^ 64
+
 -- what all entries of the code are
 pub record HasParts (e : Entry) : Type 0 where
   pub address : IsAddress e.address
   pub size : e.size < 2 ^ 64
   pub status : e.head.status < 2 ^ 16
-  pub digest : IsDigest e.digest
+  pub mark : IsMark e.mark
 
 pub record IsEntry (e : Entry) : Type 0 where
   pub parts : HasParts e

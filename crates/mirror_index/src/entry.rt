@@ -3,7 +3,7 @@ ghost use Rattle.std.specs.Prelude.{◌≡◌, ◌<◌, ◌^◌, ◌↔◌, IsTr
 ghost use Rattle.std.specs.List.{list_any};
 ghost use Rattle.local_names.specs.PlainNames.{is_control};
 ghost use Rattle.sha2.specs.Sha256.{sha256};
-ghost use Rattle.mirror_index.specs.Entries.{Entry, IsDigest, IsEntry, IsName};
+ghost use Rattle.mirror_index.specs.Entries.{Entry, IsEntry, IsMark, IsName};
 
 use crate::line::entry_line;
 use address::Address;
@@ -91,38 +91,48 @@ impl KeptHead {
     }
 }
 
-/// A page that is kept: its address, the name of its file below the folder, how many bytes that has and their SHA-256, and what
-/// was said with it.
+/// By what one sees that a file still has the bytes that it had.
+#[derive(Clone, Copy)]
+pub enum Mark {
+    /// Their SHA-256.
+    Digest([u8; 32]),
+    /// When the file was changed last, by the system's clock, in nanoseconds since 1970. It costs nothing while a page arrives, and
+    /// shows each change of the file except for one that the system loses if the power fails.
+    Changed(u64),
+}
+
+/// A page that is kept: its address, the name of its file below the folder, how many bytes that has and by what one sees that they
+/// are the same, and what was said with it.
 #[derive(Drop)]
 pub struct Entry {
     address: Address,
     name: String,
     size: u64,
-    digest: [u8; 32],
+    mark: Mark,
     head: KeptHead,
 }
 
 impl Model for Entry {
     ghost use Rattle.std.specs.String.{string_bytes};
-    ghost use Rattle.mirror_index.specs.Entries.{Entry, IsDigest};
+    ghost use Rattle.mirror_index.specs.Entries.{Entry, IsMark};
 
     ghost Value = { Entry };
 
-    ghost view = { λ e. record { address = e.address; name = string_bytes e.name; size = e.size; digest = e.digest; head = e.head } };
+    ghost view = { λ e. record { address = e.address; name = string_bytes e.name; size = e.size; mark = e.mark; head = e.head } };
 
-    ghost invariant = { λ e. IsDigest e.digest };
+    ghost invariant = { λ e. IsMark e.mark };
 }
 
 impl Entry {
     /// Of these parts. Takes no memory.
-    pub fn new(address: Address, name: String, size: u64, digest: [u8; 32], head: KeptHead) -> Entry
-        ensures { result ≡ record { address = address; name = string_bytes name; size = size; digest = digest; head = head } }
+    pub fn new(address: Address, name: String, size: u64, mark: Mark, head: KeptHead) -> Entry
+        ensures { result ≡ record { address = address; name = string_bytes name; size = size; mark = mark; head = head } }
     {
         Entry {
             address,
             name,
             size,
-            digest,
+            mark,
             head,
         }
     }
@@ -149,12 +159,12 @@ impl Entry {
         self.size
     }
 
-    /// The SHA-256 of these.
-    pub fn digest(&self) -> &[u8; 32]
-        ensures digest { result.now ≡ self.now.digest }
-        ensures is { IsDigest self.now.digest }
+    /// By what one sees that it still has these.
+    pub fn mark(&self) -> Mark
+        ensures mark { result ≡ self.now.mark }
+        ensures is { IsMark self.now.mark }
     {
-        &self.digest
+        self.mark
     }
 
     /// What was said with the page.

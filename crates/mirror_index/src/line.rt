@@ -6,10 +6,11 @@ ghost use Rattle.entry_lines.specs.Escapes.{escaped};
 ghost use Rattle.entry_lines.specs.Fields.{fields_text};
 ghost use Rattle.hex.specs.Hex.{encode_lower};
 ghost use Rattle.mirror_index.specs.Cuts.{Lacks};
-ghost use Rattle.mirror_index.specs.Entries.{Entry, HasParts, IsDigest, IsEntry, Text, KeptHead, check_of, entry_fields, entry_line, head_fields, value_field};
+ghost use Rattle.mirror_index.specs.Entries.{Entry, HasParts, IsDigest, IsEntry, IsMark, Text, KeptHead, check_of, entry_fields, entry_line, head_fields, mark_field, value_field};
+ghost use Rattle.mirror_index.specs.declared.entry.Mark.{Mark};
 
 use crate::cut::cut_at;
-use crate::entry::{Entry, KeptHead, digest_of};
+use crate::entry::{Entry, KeptHead, Mark, digest_of};
 use address::{Address, AddressFault};
 use entry_lines::{push_field, unescape};
 use hex::FromHex;
@@ -23,12 +24,22 @@ fn push_number(alloc: Global, text: &mut Vec<u8>, number: u64) -> Result<(), All
     push_field(alloc, text, digits.as_bytes())
 }
 
-// Adds a digest.
-fn push_digest(alloc: Global, text: &mut Vec<u8>, digest: &[u8; 32]) -> Result<(), AllocError>
-    ensures { OnOk result (text.new.items ≡ text.old.items ++ (escaped (encode_lower digest.now) ++ 32 ∷ [])) }
+// The field of a mark.
+fn mark_field(alloc: Global, mark: Mark) -> Result<String, AllocError>
+    ensures { IfOk result (λ field. string_bytes field ≡ mark_field mark) }
 {
-    let digits = hex::encode(alloc, digest.as_slice())?;
-    push_field(alloc, text, digits.as_bytes())
+    match mark {
+        Mark::Digest(digest) => hex::encode(alloc, digest.as_slice()),
+        Mark::Changed(time) => format!(in alloc; "@{time}"),
+    }
+}
+
+// Adds a mark.
+fn push_mark(alloc: Global, text: &mut Vec<u8>, mark: Mark) -> Result<(), AllocError>
+    ensures { OnOk result (text.new.items ≡ text.old.items ++ (escaped (mark_field mark) ++ 32 ∷ [])) }
+{
+    let field = mark_field(alloc, mark)?;
+    push_field(alloc, text, field.as_bytes())
 }
 
 // The field of a value that may be missing.
@@ -74,7 +85,7 @@ fn entry_text(alloc: Global, entry: &Entry) -> Result<Vec<u8>, AllocError>
     push_field(alloc, &mut text, entry.address().as_str().as_bytes())?;
     push_field(alloc, &mut text, entry.name().as_bytes())?;
     push_number(alloc, &mut text, entry.size())?;
-    push_digest(alloc, &mut text, entry.digest())?;
+    push_mark(alloc, &mut text, entry.mark())?;
     push_head(alloc, &mut text, entry.head())?;
     Ok(text)
 }
@@ -131,6 +142,16 @@ fn digest_in(field: &[u8]) -> [u8; 32]
     match <[u8; 32] as FromHex>::from_hex(field) {
         Ok(digest) => digest,
         Err(_) => [0; 32],
+    }
+}
+
+// The mark that a field says.
+fn mark_in(field: &[u8]) -> Mark
+    ensures { (m : Mark) → IsMark m → field.now ≡ mark_field m → result ≡ m }
+{
+    match field.strip_prefix(b"@") {
+        Some(time) => Mark::Changed(number_in(time)),
+        None => Mark::Digest(digest_in(field)),
     }
 }
 
@@ -194,7 +215,7 @@ fn entry_in(alloc: Global, fields: &[Vec<u8>]) -> Result<Option<Entry>, AllocErr
         address,
         name,
         size,
-        digest,
+        mark,
         status,
         content_type,
         etag,
@@ -217,8 +238,8 @@ fn entry_in(alloc: Global, fields: &[Vec<u8>]) -> Result<Option<Entry>, AllocErr
         last_modified.as_slice(),
     )?;
     let size = number_in(size.as_slice());
-    let digest = digest_in(digest.as_slice());
-    Ok(Some(Entry::new(address, name, size, digest, head)))
+    let mark = mark_in(mark.as_slice());
+    Ok(Some(Entry::new(address, name, size, mark, head)))
 }
 
 // Whether a line is that of an entry.

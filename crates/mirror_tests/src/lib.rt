@@ -5,13 +5,13 @@
 mod tests {
     use address::{Address, AddressFault};
     use mirror_index::{
-        Entry, IndexFault, KeptHead, MirrorIndex, digest_of, read_index, write_index,
+        Entry, IndexFault, KeptHead, Mark, MirrorIndex, digest_of, read_index, write_index,
     };
     use std::alloc::{AllocError, Global};
     use std::test::Fail;
 
     const WANTED: &[u8] =
-        b"wgetr-index 1\nhttp://h/a h/a\\sb 2 6a50dc8584134c7de537c0052ff6d236bf874355e050c90523e0c5ff2a543a28 200 =text/html;\\sa=\"\xff\" =W/\"a\\s\\\\n\\sb\" =Sun,\\s06\\sNov\\s1994\\s08:49:37\\sGMT 75aa9fbc87dac5db\nhttp://h/b h/b.html 2 9812b0b9d61e09b927d03ff93f64530d8fcf373810b7007129eb4b20962412cb 404 - - - c18b2eb62995916a\nend 2\n";
+        b"wgetr-index 1\nhttp://h/a h/a\\sb 2 6a50dc8584134c7de537c0052ff6d236bf874355e050c90523e0c5ff2a543a28 200 =text/html;\\sa=\"\xff\" =W/\"a\\s\\\\n\\sb\" =Sun,\\s06\\sNov\\s1994\\s08:49:37\\sGMT 75aa9fbc87dac5db\nhttp://h/b h/b.html 2 @1732959000123456789 404 - - - 0453a6aaaedaaa9c\nend 2\n";
 
     // The address of a page.
     fn page(alloc: Global, path: &str) -> Result<Address, AllocError> {
@@ -25,10 +25,15 @@ mod tests {
     }
 
     // An entry of a page whose file holds its path.
-    fn entry(alloc: Global, path: &str, name: &str, head: KeptHead) -> Result<Entry, AllocError> {
-        let digest = digest_of(path.as_bytes());
+    fn entry(
+        alloc: Global,
+        path: &str,
+        name: &str,
+        mark: Mark,
+        head: KeptHead,
+    ) -> Result<Entry, AllocError> {
         let name = String::from_str(alloc, name)?;
-        Ok(Entry::new(page(alloc, path)?, name, path.len() as u64, digest, head))
+        Ok(Entry::new(page(alloc, path)?, name, path.len() as u64, mark, head))
     }
 
     // What was said: a weak tag with a space, and a type that isn't text.
@@ -39,14 +44,16 @@ mod tests {
         Ok(KeptHead::new(200, Some(content_type), Some(etag), Some(date)))
     }
 
-    // An index of two pages.
+    // An index of two pages: of the first's file the digest is known, of the second's when it was changed.
     fn sample(alloc: Global) -> Result<MirrorIndex, AllocError> {
         let mut index = MirrorIndex::new(alloc);
-        let first = entry(alloc, "/a", "h/a b", head(alloc)?)?;
+        let digest = Mark::Digest(digest_of(b"/a"));
+        let first = entry(alloc, "/a", "h/a b", digest, head(alloc)?)?;
         let second = entry(
             alloc,
             "/b",
             "h/b.html",
+            Mark::Changed(1_732_959_000_123_456_789),
             KeptHead::new(404, None, None, None),
         )?;
         index.add(alloc, first)?;

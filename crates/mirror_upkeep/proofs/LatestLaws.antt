@@ -10,6 +10,7 @@ use Rattle.std.proofs.lemmas.Slice.Eq.{bytes_eq-Decides}
 use Rattle.address.specs.Address.{AddressText}
 use Rattle.address.proofs.AddressOrderLaws.{not_before_itself}
 use Rattle.mirror_index.specs.Entries.{Entry}
+use Rattle.mirror_index.specs.declared.entry.Mark.TheVariants.{Changed}
 use Rattle.mirror_upkeep.specs.Latest.{if_of, later_or, latest}
 
 pub later_or-none : (o : Option Entry) → later_or o None ≡ o
@@ -61,7 +62,7 @@ falls x y = is_lt (slice_cmp nat_cmp y.address x.address)
 
 pub latest-stable : (xs ys : List Entry) → IsStableBy falls xs ys → (at : AddressText) → latest ys at ≡ latest xs at
 latest-stable xs ys stable at =
-    let one : Entry = record { address = at; name = []; size = 0; digest = []; head = record { status = 0; content_type = None; etag = None; last_modified = None } } in
+    let one : Entry = record { address = at; name = []; size = 0; mark = Changed 0; head = record { status = 0; content_type = None; etag = None; last_modified = None } } in
     let none : (u v : List ℕ) → u ≡ at → v ≡ at → is_lt (slice_cmp nat_cmp u v) ≡ false =
     λ u v first second. not_true (is_lt (slice_cmp nat_cmp u v)) (λ e. not_before_itself at (subst (λ (w : List ℕ). is_lt (slice_cmp nat_cmp w at) ≡ true) first (subst (λ (w : List ℕ). is_lt (slice_cmp nat_cmp u w) ≡ true) second e))) in
     let keeps : (e : Entry) → e.address ≡ at → ties falls one e ≡ true =

@@ -31,7 +31,7 @@ pub(crate) fn named_again(alloc: Global, entry: &Entry, name: &str) -> Result<En
     let address = entry.address().try_clone()?;
     let name = String::from_str(alloc, name)?;
     let head = head_again(alloc, entry.head())?;
-    Ok(Entry::new(address, name, entry.size(), *entry.digest(), head))
+    Ok(Entry::new(address, name, entry.size(), entry.mark(), head))
 }
 
 /// A copy of an entry.

@@ -12,6 +12,8 @@ use Rattle.http_fetcher.specs.Fetching.{Fetching, StandsForOne, with_condition}
 use Rattle.http_fetcher.specs.Meanings.{MayAnswerWithin}
 use Rattle.mirror_index.specs.Entries.{Entry}
 use Rattle.mirror_index.specs.Indexes.{HasThis}
+use Rattle.mirror_index.specs.declared.entry.Mark.{Mark}
+use Rattle.mirror_index.specs.declared.entry.Mark.TheVariants.{Changed, Digest}
 use Rattle.part_keeper.specs.Parts.{holds_part, holds_received}
 use Rattle.part_keeper.specs.declared.part.KeptPart.{KeptPart}
 use Rattle.pacing.specs.Retries.{Retried}
@@ -21,7 +23,7 @@ use Rattle.response_reader.specs.Limits.{Limited}
 use Rattle.retries.specs.Keeping.{MayKeep, StandsForAnswer, asks_of, is_worth_answer}
 use Rattle.retries.specs.Tries.{AreTries, IsLastOf}
 use Rattle.tcp_connect.specs.Connecting.{Connecting}
-use Rattle.tcp_fetcher.specs.Answering.{IsAnswered, IsAnsweredBy, IsLeft, IsOfEarlier, IsReceived, IsReceivedIfChanged, IsReceivedUnder, IsRecorded, IsTold, Lasting, has_status, lasting, not_received, site_of, without_digest}
+use Rattle.tcp_fetcher.specs.Answering.{AreMarked, HasMark, IsAnswered, IsAnsweredBy, IsLeft, IsOfEarlier, IsReceived, IsReceivedIfChanged, IsReceivedUnder, IsRecorded, IsTold, Lasting, has_status, lasting, not_received, site_of, without_digest}
 use Rattle.tcp_fetcher.specs.TcpFetching.{TcpFetching, conditioned}
 use Rattle.tcp_fetcher.specs.PartsFetching.{MayAnswerIn}
 use Rattle.tcp_fetcher.specs.declared.earlier.Earlier.{Earlier}
@@ -82,21 +84,24 @@ module _ {C : Type 0} (limits : Limited) (at : AddressText) (retries : Retried) 
   last_without most old new answer (earlier, tries, few, inr all) =
       (bare earlier, tries_without old earlier new answer tries, subst (λ n. n ≤ most) (sym (bare_length earlier)) few, inr (bare_length earlier ∙ all))
 
--- an answer of the recorded status, whose body has the recorded digest, and is read from an earlier run's file
-pub recorded : (limits : Limited) (links : LinkRules) (at : AddressText) (entry : Entry) (answer : Answer (Digested KeptPart)) (digest : List ℕ) (status : ℕ)
-    → digest ≡ entry.digest → status ≡ entry.head.status
-    → (answer.body.digest ≡ Some digest) × (has_status answer.outcome status ≡ true)
+-- an answer of the recorded status, whose body has the recorded mark, and is read from an earlier run's file
+pub recorded : (limits : Limited) (links : LinkRules) (at : AddressText) (entry : Entry) (answer : Answer (Digested KeptPart)) (mark : Mark) (status : ℕ)
+    → mark ≡ entry.mark → status ≡ entry.head.status
+    → HasMark mark answer.body.digest × (has_status answer.outcome status ≡ true)
     → StandsForAnswer (HoldsDigested holds_received) limits links at answer
     → (has_status answer.outcome entry.head.status ≡ true)
     × ((not_received (without_digest answer)).body.is_received ≡ false)
-    × StandsForOne holds_part (not_received (without_digest answer)) (λ real. MayAnswerWithin limits links at real.outcome real.body × (sha256 real.body.bytes ≡ entry.digest))
-recorded limits links at entry answer digest status same_digest same_status (own, says) (real, (outcome, ((holds, received), of_body)), may) =
-    let known : digest ≡ sha256 real.body.bytes = subst (λ (d : Option (List ℕ)). IfSome d (λ x. x ≡ sha256 real.body.bytes)) own of_body in
-    (subst (λ s. has_status answer.outcome s ≡ true) same_status says, refl, (real, (outcome, holds), (may, sym known ∙ same_digest)))
+    × StandsForOne holds_part (not_received (without_digest answer)) (λ real. MayAnswerWithin limits links at real.outcome real.body × AreMarked entry.mark real.body.bytes)
+recorded limits links at entry answer mark status same_mark same_status (own, says) (real, (outcome, ((holds, received), of_body)), may) =
+    (subst (λ s. has_status answer.outcome s ≡ true) same_status says, refl, (real, (outcome, holds), (may, subst (λ (m : Mark). AreMarked m real.body.bytes) same_mark (marked mark own))))
+  where
+    marked : (m : Mark) → HasMark m answer.body.digest → AreMarked m real.body.bytes
+    marked (Digest digest) is = sym (subst (λ (d : Option (List ℕ)). IfSome d (λ x. x ≡ sha256 real.body.bytes)) is of_body)
+    marked (Changed time) is = tt
 
 -- it is one that the site may give
 pub may_recorded : (fetcher : Lasting) (at : AddressText) (entry : Entry) (answer : Answer KeptPart) → IsRecorded fetcher at entry answer → MayAnswerIn (site_of fetcher) at answer.outcome answer.body
-may_recorded fetcher at entry answer (says, left, (real, kept, (may, digest))) = (real, kept, may)
+may_recorded fetcher at entry answer (says, left, (real, kept, (may, marked))) = (real, kept, may)
 
 module _ (fetcher : Lasting) (at : AddressText) (old new : Fetching Connecting) (answer : Answer KeptPart) where
   -- what is received over the network is answered, whatever is known

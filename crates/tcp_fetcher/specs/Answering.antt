@@ -12,6 +12,8 @@ use Rattle.html_links.specs.declared.rules.LinkRules.{LinkRules}
 use Rattle.http_fetcher.specs.Fetching.{Fetching, StandsForOne, with_condition}
 use Rattle.http_fetcher.specs.Meanings.{MayAnswerWithin}
 use Rattle.mirror_index.specs.Entries.{Entry}
+use Rattle.mirror_index.specs.declared.entry.Mark.{Mark}
+use Rattle.mirror_index.specs.declared.entry.Mark.TheVariants.{Changed, Digest}
 use Rattle.mirror_index.specs.Indexes.{HasThis}
 use Rattle.earlier_pages.specs.Pages.{condition_by}
 use Rattle.part_keeper.specs.Parts.{holds_part, holds_received}
@@ -66,18 +68,28 @@ not_received answer = record { outcome = answer.outcome; body = record answer.bo
 abbrev pub without_digest : Answer (Digested KeptPart) → Answer KeptPart
 without_digest answer = record { outcome = answer.outcome; body = answer.body.kept }
 
+-- a body has the digest of a mark; of a mark that is a time the file's own time shows it, before it is read
+abbrev pub HasMark : Mark → Option (List ℕ) → Type 0
+HasMark (Digest digest) own = own ≡ Some digest
+HasMark (Changed time) own = Unit {0}
+
+-- bytes have the SHA-256 of a mark, if it has one
+abbrev pub AreMarked : Mark → List ℕ → Type 0
+AreMarked (Digest digest) bytes = sha256 bytes ≡ digest
+AreMarked (Changed time) bytes = Unit {0}
+
 module _ (fetcher : Lasting) (at : AddressText) where
   -- the answer is one that the site may give, and of which this holds
   abbrev pub IsTold : (Answer KeptPart → Type 0) → Answer KeptPart → Type 0
   IsTold Holds answer = MayAnswerIn (site_of fetcher) at answer.outcome answer.body × Holds answer
 
   -- the answer is one that the site may give, of the status that was recorded, and its body, which this run didn't receive, has the SHA-256
-  -- that was recorded
+  -- that was recorded, or is that of a file with the time that was recorded
   abbrev pub IsRecorded : Entry → Answer KeptPart → Type 0
   IsRecorded entry answer =
       (has_status answer.outcome entry.head.status ≡ true)
       × (answer.body.is_received ≡ false)
-      × StandsForOne holds_part answer (λ real. MayAnswerWithin fetcher.limits fetcher.links at real.outcome real.body × (sha256 real.body.bytes ≡ entry.digest))
+      × StandsForOne holds_part answer (λ real. MayAnswerWithin fetcher.limits fetcher.links at real.outcome real.body × AreMarked entry.mark real.body.bytes)
 
   -- from one of these to the other the network is asked once, or again if that is worth it, and what is received last is the answer, whose
   -- body counts as received

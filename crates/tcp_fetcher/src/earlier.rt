@@ -19,8 +19,8 @@ pub struct IndexNote {
     pub at: Address,
     /// How many bytes its body has.
     pub len: u64,
-    /// The SHA-256 of these.
-    pub digest: [u8; 32],
+    /// The SHA-256 of these, if digests are computed.
+    pub digest: Option<[u8; 32]>,
     /// What its head said.
     pub head: KeptHead,
 }

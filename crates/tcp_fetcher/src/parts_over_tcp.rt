@@ -4,7 +4,7 @@ ghost use Rattle.std.specs.Arc.{arc_value};
 ghost use Rattle.fetcher.specs.Logs.{GainedAtMost};
 ghost use Rattle.fetcher.specs.declared.fetcher.Ask.TheVariants as ask;
 ghost use Rattle.http_fetcher.specs.Fetching.{with_condition};
-ghost use Rattle.tcp_fetcher.specs.Answering.{IsAnswered, IsConcluded, IsLeft, IsReceived, IsReceivedIfChanged, IsReceivedUnder, IsRecorded, IsTold, has_status, is_unchanged, lasting, not_received, without_digest};
+ghost use Rattle.tcp_fetcher.specs.Answering.{HasMark, IsAnswered, IsConcluded, IsLeft, IsReceived, IsReceivedIfChanged, IsReceivedUnder, IsRecorded, IsTold, has_status, is_unchanged, lasting, not_received, without_digest};
 ghost use Rattle.tcp_fetcher.specs.PartsFetching.{MayAnswerIn, MayRuleIn, PartsSite, parts_site};
 
 use crate::earlier::{Earlier, IndexNote};
@@ -17,7 +17,7 @@ use early_names::EarlyRules;
 use fetcher::{Answer, Ask, Fetcher, Outcome};
 use http_fetcher::answer_over;
 use kept_bodies::BodyKind;
-use mirror_index::KeptHead;
+use mirror_index::{KeptHead, Mark};
 use part_keeper::{KeptPart, PartCounter, PartKeeper, PartsDir, Standing};
 use requests::Condition;
 use response_answer::PageSink;
@@ -45,7 +45,7 @@ where
     rules: Option<Arc<EarlyRules>>,
     // What is known of an earlier run's pages, if an index is kept.
     earlier: Option<Arc<Earlier>>,
-    // The SHA-256 of the body that was kept last, if an index is kept and the last page has one.
+    // The SHA-256 of the body that was kept last, if digests are computed and the last page has one.
     last: Option<[u8; 32]>,
     // Whether what was answered last was requested over the network.
     is_requested: bool,
@@ -156,13 +156,13 @@ where
         ensures recorded { IfOk result (λ found. IfSome found (IsRecorded (lasting self.old) at.now page.entry.entry)) }
         ensures fetcher { self.new ≡ self.old }
     {
-        let digest = *page.entry().digest();
+        let mark = page.entry().mark();
         let status = page.entry().head().status();
         let mut wire = TcpWire::new(page.into_stream()?);
         let links = self.inner.link_rules();
         let limits = self.inner.limits();
         let answer = answer_over(self.alloc, &mut wire, at, &mut self.sink, links, limits)?;
-        if is_recorded(&answer, &digest, status) {
+        if is_recorded(&answer, mark, status) {
             return Ok(Some(not_received(self.taken(answer))));
         }
         Ok(None)
@@ -294,16 +294,13 @@ where
         }
     }
 
-    /// What an index gets of a page and its answer, the last one, if an index is kept and the page can be answered by it: not if its body
-    /// was coded, since its links weren't looked for.
+    /// What an index or a journal gets of a page and its answer, the last one, if the page can be answered by it: not if its body was coded,
+    /// since its links weren't looked for.
     pub fn note(
         &self,
         at: &Address,
         answer: &Answer<KeptPart>,
     ) -> Result<Option<IndexNote>, AllocError> {
-        let Some(digest) = self.last else {
-            return Ok(None);
-        };
         let Some(status) = status_noted(answer) else {
             return Ok(None);
         };
@@ -313,7 +310,7 @@ where
         Ok(Some(IndexNote {
             at: at.try_clone()?,
             len: answer.body.len,
-            digest,
+            digest: self.last,
             head: KeptHead::new(status, kind, tag, changed),
         }))
     }
@@ -348,14 +345,22 @@ fn has_status(outcome: &Outcome, said: u16) -> bool
     }
 }
 
-// Whether an answer is of this status, and its body has this digest.
-fn is_recorded(answer: &Answer<Digested<KeptPart>>, digest: &[u8; 32], status: u16) -> bool
-    ensures { IsTrue result → (answer.now.body.digest ≡ Some digest.now) × (has_status answer.now.outcome status ≡ true) }
+// Whether a body has this mark, as far as its bytes show it: the file that it is read from has the time of one without a digest.
+fn has_mark(body: &Digested<KeptPart>, mark: Mark) -> bool
+    ensures { IsTrue result → HasMark mark body.now.digest }
 {
-    match &answer.body.digest {
-        Some(own) => own.as_slice() == digest.as_slice() && has_status(&answer.outcome, status),
-        None => false,
+    match (mark, &body.digest) {
+        (Mark::Digest(digest), Some(own)) => own.as_slice() == digest.as_slice(),
+        (Mark::Digest(_), None) => false,
+        (Mark::Changed(_), _) => true,
     }
+}
+
+// Whether an answer is of this status, and its body has this mark.
+fn is_recorded(answer: &Answer<Digested<KeptPart>>, mark: Mark, status: u16) -> bool
+    ensures { IsTrue result → HasMark mark answer.now.body.digest × (has_status answer.now.outcome status ≡ true) }
+{
+    has_mark(&answer.body, mark) && has_status(&answer.outcome, status)
 }
 
 // An answer whose body was read from an earlier run's file.

@@ -4,6 +4,7 @@ use Rattle.std.specs.Cmp.Lexicographic.{slice_cmp}
 use Rattle.std.specs.Ordering.{is_lt, nat_cmp}
 use denote.Ref.{Bor}
 use Rattle.mirror_index.specs.Entries.{Entry, Text}
+use Rattle.mirror_index.specs.declared.entry.Mark.TheVariants.{Changed}
 
 -- the first ones are the names of as many entries, each with its place
 pub record AreNamed (entries : List Entry) (named : List (Bor Text × ℕ)) (count : ℕ) : Type 0 where
@@ -17,7 +18,7 @@ is_named_before one other = is_lt (slice_cmp nat_cmp one.0.now other.0.now)
 
 -- an entry to read where there is none
 abbrev pub no_entry : Entry
-no_entry = record { address = []; name = []; size = 0; digest = []; head = record { status = 0; content_type = None; etag = None; last_modified = None } }
+no_entry = record { address = []; name = []; size = 0; mark = Changed 0; head = record { status = 0; content_type = None; etag = None; last_modified = None } }
 
 -- the name of the entry at a place is before this one
 abbrev pub is_before : List Entry → Text → ℕ → Bool

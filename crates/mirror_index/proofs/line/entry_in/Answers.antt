@@ -19,13 +19,13 @@ returns c e is same =
     let etag = c.as_slice-5.ensures.value ∙ at 6 c.etag-item.result (omega arith) c.etag-item.is in
     let last_modified = c.as_slice-6.ensures.value ∙ at 7 c.last_modified-item.result (omega arith) c.last_modified-item.is in
     let size = c.as_slice-7.ensures.value ∙ at 2 c.size-item.result (omega arith) c.size-item.is in
-    let digest = c.as_slice-8.ensures.value ∙ at 3 c.digest-item.result (omega arith) c.digest-item.is in
+    let mark = c.as_slice-8.ensures.value ∙ at 3 c.mark-item.result (omega arith) c.mark-item.is in
     let read_address = c.in_ok-address.ensures (subst IsAddress (sym address) is.parts.address) in
     let first : c.in-Some.address ≡ e.address = cc (read_address, c.in-Some.is, address) in
     let read_name = c.in_ok-name.ensures (subst IsUtf8 (sym name) is.name.utf8) in
     let some_name = ap (λ (o : Option _). option_map string_bytes o) c.in-Some-2.is in
     let second : string_bytes c.in-Some-2.name ≡ e.name = cc (read_name, some_name, name) in
     ap (λ (x : Entry). Some x)
-    (c.new.ensures ∙ same_entry e c.in-Some.address (string_bytes c.in-Some-2.name) c.number_in-size.result c.digest_in-digest.result c.in_ok-head.head first second
-    (c.number_in-size.ensures e.size is.parts.size size) (c.digest_in-digest.ensures e.digest is.parts.digest digest)
+    (c.new.ensures ∙ same_entry e c.in-Some.address (string_bytes c.in-Some-2.name) c.number_in-size.result c.mark_in-mark.result c.in_ok-head.head first second
+    (c.number_in-size.ensures e.size is.parts.size size) (c.mark_in-mark.ensures e.mark is.parts.mark mark)
     (c.in_ok-head.ensures e.head is.parts.status status content_type etag last_modified))

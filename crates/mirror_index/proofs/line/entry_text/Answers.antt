@@ -9,5 +9,5 @@ returns-clause-parts c = record {
   address = subst IsAddress c.address.ensures c.as_str.ensures.address;
   size = c.size.ensures.fits;
   status = subst (λ (h : KeptHead). h.status < 2 ^ 16) c.head.ensures c.push_head.ensures.fits;
-  digest = c.digest.ensures.is;
+  mark = c.mark.ensures.is;
 }
