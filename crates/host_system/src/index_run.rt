@@ -4,14 +4,11 @@ ghost use Rattle.host_system.specs.declared.index_run.BeginFault.TheVariants.{Un
 
 use crate::journal::{JOURNAL, LeftJournal, SharedJournal, is_nothing, left_at};
 use crate::shared_failures::SharedFailures;
-use address::Address;
-use earlier_pages::{EarlierPages, changed_at};
+use earlier_pages::EarlierPages;
 use harvest::Harvest;
 use local_names::ORIGINAL;
-use mirror_index::{Entry, IndexFault, MAX_INDEX, Mark, MirrorIndex, read_index, write_index};
-use mirror_upkeep::{
-    first_line, gone, in_way, is_anothers, is_sure, joined, named_pages, places_by_name, push_entry,
-};
+use mirror_index::{Entry, IndexFault, MAX_INDEX, MirrorIndex, read_index, write_index};
+use mirror_upkeep::{first_line, gone, in_way, is_sure, joined, named_pages, places_by_name};
 use options::{Order, Upkeep};
 use part_keeper::KeptPart;
 use std::alloc::{AllocError, Global};
@@ -20,7 +17,7 @@ use std::io::{ErrorKind, Write};
 use std::sync::{Arc, Mutex, Wait};
 use std::{io, mem};
 use streams::{Close, Lock, ReadInputFault, read_input};
-use tcp_fetcher::{Earlier, IndexNote};
+use tcp_fetcher::Earlier;
 
 /// What the index is called, directly below the folder. No page has a name that begins so.
 pub(crate) const INDEX: &str = ".wgetr%index";
@@ -45,18 +42,27 @@ impl From<AllocError> for BeginFault {
     }
 }
 
-// What a run was begun with.
+/// What a run was begun with.
 #[derive(Drop)]
-struct Begun {
-    folder: String,
+pub(crate) struct Begun {
+    /// The folder of its pages.
+    pub(crate) folder: String,
     upkeep: Upkeep,
     // Whether bodies are kept beside files whose links change.
     backs_up: bool,
     // The same, and links do change, so that no page has the name of such a body.
     has_originals: bool,
-    earlier: Arc<Earlier>,
-    // The places of the earlier pages' entries, in the order of their names.
-    by_name: Vec<usize>,
+    /// What is known of earlier runs' pages.
+    pub(crate) earlier: Arc<Earlier>,
+    /// The places of the earlier pages' entries, in the order of their names.
+    pub(crate) by_name: Vec<usize>,
+}
+
+impl Begun {
+    /// Whether an index is kept.
+    pub(crate) fn keeps_index(&self) -> bool {
+        keeps_index(self.upkeep)
+    }
 }
 
 // Whether an index is kept.
@@ -243,41 +249,6 @@ fn index_of<R: Files + Wait>(
         Err(Unread::Memory) => return Err(AllocError),
     }
     Ok(MirrorIndex::new(alloc))
-}
-
-// The entry of a noted page, which has this name and this mark.
-fn entry_of(alloc: Global, note: IndexNote, name: &str, mark: Mark) -> Result<Entry, AllocError> {
-    let name = String::from_str(alloc, name)?;
-    let IndexNote {
-        at,
-        len,
-        digest: _digest,
-        head,
-    } = note;
-    Ok(Entry::new(at, name, len, mark, head))
-}
-
-// By what one sees later that a page's file has the bytes of its body: their digest, or when the file of this name was changed last. None if
-// no digest was computed and the page has no file yet.
-fn mark_of<R: Files>(
-    rt: &R,
-    alloc: Global,
-    folder: &str,
-    name: Option<&str>,
-    digest: Option<[u8; 32]>,
-) -> io::Result<Option<Mark>> {
-    if let Some(digest) = digest {
-        return Ok(Some(Mark::Digest(digest)));
-    }
-    let Some(name) = name else {
-        return Ok(None);
-    };
-    let path = own_path(alloc, folder, name)?;
-    let found = rt.symlink_metadata(path.as_str())?;
-    match changed_at(&found) {
-        Some(time) => Ok(Some(Mark::Changed(time))),
-        None => Ok(None),
-    }
 }
 
 // The names of files that a run put, and those of the bodies that it may have kept beside them.
@@ -555,66 +526,27 @@ impl<F: Drop> IndexRun<F> {
         Arc::try_clone(&begun.earlier).ok()
     }
 
-    /// Whether the page of an address may have this name early: not if an earlier run gave it to another page, whose file may be read yet.
-    pub(crate) fn may_name<R: Wait>(&self, rt: &R, at: &Address, name: &str) -> bool {
-        let begun = shared(&mut self.begun.lock(rt));
-        match begun {
-            Some(begun) => {
-                let entries = begun.earlier.pages.index().entries();
-                !is_anothers(entries, begun.by_name.as_slice(), name, at)
-            }
-            None => true,
-        }
+    /// What the run was begun with, once it was. None if there is no room to share it.
+    pub(crate) fn begun<R: Wait>(&self, rt: &R) -> Option<Arc<Begun>> {
+        shared(&mut self.begun.lock(rt))
     }
 
-    // Notes a page that has this name early, if it has one.
-    fn try_note<R: Wait + Files<File = F>>(
+    /// Adds the line of a page that has its name to the journal, which is made if it is the first; `own` is the run's own directory.
+    pub(crate) fn add_line<R: Wait + Files<File = F>>(
         &self,
         rt: &R,
         own: &str,
-        note: IndexNote,
-        name: Option<&str>,
+        line: &[u8],
     ) -> io::Result<()>
     where
         F: Write + Lock,
     {
-        let Some(begun) = shared(&mut self.begun.lock(rt)) else {
-            return Ok(());
-        };
-        let folder = begun.folder.as_str();
-        let Some(mark) = mark_of(rt, self.alloc, folder, name, note.digest)? else {
-            return Ok(());
-        };
-        let entry = entry_of(self.alloc, note, name.unwrap_or(""), mark)?;
-        if name.is_some() {
-            let mut line = Vec::new(self.alloc);
-            push_entry(self.alloc, &mut line, &entry)?;
-            self.journal
-                .lock(rt)
-                .add(rt, self.alloc, own, line.as_slice())?;
-        }
-        if keeps_index(begun.upkeep) {
-            push(&mut self.pages.lock(rt), entry)?;
-        }
-        Ok(())
+        self.journal.lock(rt).add(rt, self.alloc, own, line)
     }
 
-    /// Notes a page that has this name early, if it has one, for the journal and for the index; `own` is the run's own directory. A page
-    /// that can't be noted is requested by the next run, too.
-    pub(crate) fn note<R: Wait + Files<File = F>>(
-        &self,
-        rt: &R,
-        failures: &SharedFailures,
-        own: &str,
-        note: IndexNote,
-        name: Option<&str>,
-    )
-    where
-        F: Write + Lock,
-    {
-        if let Err(error) = self.try_note(rt, own, note, name) {
-            failures.fail(rt, JOURNAL, &error);
-        }
+    /// Notes a page for the index.
+    pub(crate) fn add_page<R: Wait>(&self, rt: &R, page: Entry) -> Result<(), AllocError> {
+        push(&mut self.pages.lock(rt), page)
     }
 
     /// The pages of a harvest are to be put under these names: files of earlier runs that an index names give way, if one is kept.
@@ -628,7 +560,7 @@ impl<F: Drop> IndexRun<F> {
         let Some(begun) = shared(&mut self.begun.lock(rt)) else {
             return Ok(());
         };
-        if !keeps_index(begun.upkeep) || begun.earlier.pages.index().len() == 0 {
+        if !begun.keeps_index() || begun.earlier.pages.index().len() == 0 {
             return Ok(());
         }
         let earlier = begun.earlier.pages.index().entries();
@@ -707,7 +639,7 @@ impl<F: Drop> IndexRun<F> {
             return;
         };
         // Without a directory of its own the run has kept nothing, and what there was stays as it is.
-        if keeps_index(begun.upkeep) && !own.is_empty() {
+        if begun.keeps_index() && !own.is_empty() {
             if let Err(error) = self.end_index(rt, failures, own, &begun, &put, is_whole) {
                 failures.fail(rt, INDEX, &error);
             }

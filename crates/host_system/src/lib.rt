@@ -11,6 +11,7 @@ mod journal;
 mod limited_lookups;
 mod network;
 mod output;
+mod page_notes;
 mod part_threads;
 mod parts_asking;
 mod rejected_file;

@@ -3,6 +3,7 @@ use crate::asking::Asking;
 use crate::disk::{PageFolder, Saved};
 use crate::early_run::EarlyRun;
 use crate::index_run::{BeginFault, IndexRun};
+use crate::page_notes::PageNotes;
 use crate::part_threads::PartThreads;
 use crate::parts_asking::PartsAsking;
 use crate::shared_failures::SharedFailures;
@@ -163,8 +164,9 @@ where
             alloc: self.alloc,
             failures: self.failures,
             parts: self.parts,
+            own: String::new(self.alloc),
             early: self.early,
-            index: self.index,
+            notes: PageNotes::new(self.rt, self.alloc, self.index),
             rules: self.early.rules(self.rt),
             folder: None,
         })

@@ -1,6 +1,6 @@
 //! What asks the site for one worker and has bodies kept in parts while they arrive.
 use crate::early_run::EarlyRun;
-use crate::index_run::IndexRun;
+use crate::page_notes::PageNotes;
 use crate::shared_failures::SharedFailures;
 use address::{Address, Origin};
 use early_names::{EarlyRules, is_early};
@@ -27,8 +27,10 @@ where
     pub(crate) alloc: Global,
     pub(crate) failures: &'a SharedFailures,
     pub(crate) parts: &'a PartsDir<R::File>,
+    // The path of the run's own directory; empty before a page was named.
+    pub(crate) own: String,
     pub(crate) early: &'a EarlyRun,
-    pub(crate) index: &'a IndexRun<R::File>,
+    pub(crate) notes: PageNotes<'a, R::File>,
     pub(crate) rules: Option<Arc<EarlyRules>>,
     // None before a page was named.
     pub(crate) folder: Option<DiskFolder<'a, R>>,
@@ -46,8 +48,9 @@ where
             alloc: _alloc,
             failures: _failures,
             parts: _parts,
+            own: _own,
             early: _early,
-            index: _index,
+            notes: _notes,
             rules: _rules,
             folder: _folder,
         } = self;
@@ -74,7 +77,7 @@ where
         let Ok(name) = rules.name_of(self.alloc, part.kind, at) else {
             return None;
         };
-        if !is_early(name.as_str()) || !self.index.may_name(self.rt, at, name.as_str()) {
+        if !is_early(name.as_str()) || !self.notes.may_name(at, name.as_str()) {
             return None;
         }
         if self.early.claim(self.rt, name.as_str()) {
@@ -92,29 +95,33 @@ where
         DiskFolder::new(self.rt, self.alloc, path.as_str()).ok()
     }
 
-    // The worker's own folder, which is made at first. None if there is no memory for it.
-    fn take_folder(&mut self) -> Option<DiskFolder<'a, R>>
+    // Has the worker know the run's own directory, which was made for a part, and have a folder. Whether it does: there may be no memory
+    // for them.
+    fn find_folder(&mut self) -> bool
         ensures { self.new.inner ≡ self.old.inner }
     {
-        match self.folder.take() {
-            Some(folder) => Some(folder),
-            None => self.new_folder(),
+        if self.own.is_empty() {
+            if let Ok(own) = self.parts.path(self.rt) {
+                self.own = own;
+            }
         }
+        if self.folder.is_none() {
+            self.folder = self.new_folder();
+        }
+        !self.own.is_empty() && self.folder.is_some()
     }
 
     // Gives a part this name. Whether it has it then.
     fn give_name(&mut self, name: &str, part: &KeptPart) -> bool
         ensures { self.new.inner ≡ self.old.inner }
     {
-        let Ok(dir) = self.parts.path(self.rt) else {
+        if !self.find_folder() {
             return false;
-        };
-        let Some(mut folder) = self.take_folder() else {
-            return false;
-        };
-        let is_named = folder.name_early(dir.as_str(), name, part);
-        self.folder = Some(folder);
-        is_named
+        }
+        match &mut self.folder {
+            Some(folder) => folder.name_early(self.own.as_str(), name, part),
+            None => false,
+        }
     }
 
     // A page's part, which has its name from then on if nothing is in its way, and what was noted of the page.
@@ -133,7 +140,7 @@ where
             self.note_kept(note, None);
             return part;
         }
-        self.note_kept(note, Some(name.as_str()));
+        self.note_kept(note, Some(name));
         KeptPart {
             standing: Standing::Named,
             ..part
@@ -153,12 +160,13 @@ where
     }
 
     // Notes a page that has this name early, if it has one.
-    fn note_kept(&self, note: Option<IndexNote>, name: Option<&str>) {
-        let (Some(note), Ok(own)) = (note, self.parts.path(self.rt)) else {
-            return;
-        };
-        self.index
-            .note(self.rt, self.failures, own.as_str(), note, name);
+    fn note_kept(&mut self, note: Option<IndexNote>, name: Option<String>)
+        ensures { self.new.inner ≡ self.old.inner }
+    {
+        if let Some(note) = note {
+            self.notes
+                .note(self.rt, self.failures, self.own.as_str(), note, name);
+        }
     }
 
     // Keeps that the last connection was lost, which was to request this origin's robots file.

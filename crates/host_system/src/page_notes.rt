@@ -1,0 +1,156 @@
+//! What one worker notes of the pages that it kept, for the run's journal and its index.
+use crate::index_run::{Begun, IndexRun};
+use crate::journal::JOURNAL;
+use crate::shared_failures::SharedFailures;
+use address::Address;
+use earlier_pages::changed_at;
+use mirror_index::{Entry, Mark};
+use mirror_upkeep::{is_anothers, push_entry};
+use std::alloc::{AllocError, Global};
+use std::fs::Files;
+use std::io;
+use std::io::Write;
+use std::sync::{Arc, Wait};
+use streams::Lock;
+use tcp_fetcher::IndexNote;
+
+/// What one worker notes of the pages that it kept. It shares once what the run was begun with, and keeps the room for a path and a line:
+/// a page takes no lock for these, and mostly no memory.
+pub(crate) struct PageNotes<'a, F: Drop> {
+    alloc: Global,
+    index: &'a IndexRun<F>,
+    // None if no run was begun.
+    begun: Option<Arc<Begun>>,
+    // The path of the last page's file.
+    path: String,
+    // Its line.
+    line: Vec<u8>,
+}
+
+// Written by hand: a user that drops one proves a call, and nothing about its fields.
+impl<'a, F: Drop> Drop for PageNotes<'a, F> {
+    fn drop(self) {
+        let PageNotes {
+            alloc: _alloc,
+            index: _index,
+            begun: _begun,
+            path: _path,
+            line: _line,
+        } = self;
+    }
+}
+
+// Makes it the path of the file of this name below a folder.
+fn set_path(path: &mut String, folder: &str, name: &str) -> Result<(), AllocError> {
+    path.clear();
+    path.push_str(folder)?;
+    path.push_str("/")?;
+    path.push_str(name)
+}
+
+// By what one sees later that a page's file has the bytes of its body: their digest, or when the file of this name was changed last, whose
+// path is in `path` then. None if no digest was computed and the page has no file yet.
+fn mark_of<R: Files>(
+    rt: &R,
+    path: &mut String,
+    folder: &str,
+    name: Option<&str>,
+    digest: Option<[u8; 32]>,
+) -> io::Result<Option<Mark>> {
+    if let Some(digest) = digest {
+        return Ok(Some(Mark::Digest(digest)));
+    }
+    let Some(name) = name else {
+        return Ok(None);
+    };
+    set_path(path, folder, name)?;
+    let found = rt.symlink_metadata(path.as_str())?;
+    match changed_at(&found) {
+        Some(time) => Ok(Some(Mark::Changed(time))),
+        None => Ok(None),
+    }
+}
+
+// The entry of a noted page, which has this name and this mark.
+fn entry_of(note: IndexNote, name: String, mark: Mark) -> Entry {
+    let IndexNote {
+        at,
+        len,
+        digest: _digest,
+        head,
+    } = note;
+    Entry::new(at, name, len, mark, head)
+}
+
+impl<'a, F: Drop> PageNotes<'a, F> {
+    /// What a worker of this run notes, which has begun. Takes no memory.
+    pub(crate) fn new<R: Wait>(rt: &R, alloc: Global, index: &'a IndexRun<F>) -> PageNotes<'a, F> {
+        PageNotes {
+            alloc,
+            index,
+            begun: index.begun(rt),
+            path: String::new(alloc),
+            line: Vec::new(alloc),
+        }
+    }
+
+    /// Whether the page of an address may have this name early: not if an earlier run gave it to another page, whose file may be read yet.
+    pub(crate) fn may_name(&self, at: &Address, name: &str) -> bool {
+        match &self.begun {
+            Some(begun) => {
+                let entries = begun.earlier.pages.index().entries();
+                !is_anothers(entries, begun.by_name.as_slice(), name, at)
+            }
+            None => true,
+        }
+    }
+
+    // Notes a page that has this name early, if it has one.
+    fn try_note<R: Wait + Files<File = F>>(
+        &mut self,
+        rt: &R,
+        own: &str,
+        note: IndexNote,
+        name: Option<String>,
+    ) -> io::Result<()>
+    where
+        F: Write + Lock,
+    {
+        let Some(begun) = &self.begun else {
+            return Ok(());
+        };
+        let folder = begun.folder.as_str();
+        let Some(mark) = mark_of(rt, &mut self.path, folder, name.as_deref(), note.digest)? else {
+            return Ok(());
+        };
+        let is_named = name.is_some();
+        let entry = entry_of(note, name.unwrap_or(String::new(self.alloc)), mark);
+        if is_named {
+            self.line.clear();
+            push_entry(self.alloc, &mut self.line, &entry)?;
+            self.index.add_line(rt, own, self.line.as_slice())?;
+        }
+        if begun.keeps_index() {
+            self.index.add_page(rt, entry)?;
+        }
+        Ok(())
+    }
+
+    /// Notes a page that has this name early, if it has one, for the journal and for the index; `own` is the run's own directory. A page
+    /// that can't be noted is requested by the next run, too.
+    pub(crate) fn note<R: Wait + Files<File = F>>(
+        &mut self,
+        rt: &R,
+        failures: &SharedFailures,
+        own: &str,
+        note: IndexNote,
+        name: Option<String>,
+    )
+    where
+        F: Write + Lock,
+    {
+        if let Err(error) = self.try_note(rt, own, note, name) {
+            failures.fail(rt, JOURNAL, &error);
+        }
+    }
+}
