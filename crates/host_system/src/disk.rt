@@ -83,6 +83,18 @@ where
     }
 }
 
+// Whether each page has a name that it was given early. Then no other name is needed: of claimed names none is another or a directory of it
+// (`early_names::Claims::claim.clear`), and a page whose plain name is so in the way of no other page has that in the end
+// (`local_names::names.naming`).
+fn are_all_named(harvest: &Harvest<KeptPart>) -> bool {
+    for i in 0..harvest.kept().len() {
+        if harvest.kept_body(i).standing != Standing::Named {
+            return false;
+        }
+    }
+    true
+}
+
 // The line for a page whose links would be read otherwise if they were changed.
 fn unread_line(alloc: Global, name: &str) -> Result<String, AllocError> {
     format!(in alloc;
@@ -133,6 +145,9 @@ where
         requires { length names.now ≡ length harvest.now.kept }
         ensures { self.new.inner ≡ self.old.inner }
     {
+        if are_all_named(harvest) {
+            return;
+        }
         let Some(rules) = self.early.rules(self.rt) else {
             return;
         };
