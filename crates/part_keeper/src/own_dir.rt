@@ -20,9 +20,12 @@ const LOOKED_AT: u32 = 16;
 /// A directory that this run made and that no other uses.
 ///
 /// A run makes its directory, then the file `lock` in it, and holds that until its end. So whoever can hold the lock of a directory
-/// knows that its run has ended, and may remove it.
+/// knows that its run has ended, and may remove it. All else goes into a directory of its own there, which is removed before the lock: so
+/// a directory without a lock is empty, whenever a run was killed.
 #[derive(Drop)]
 pub struct OwnDir<F> {
+    dir: String,
+    // Of what is in it besides the lock.
     path: String,
     // The file that is held. On a disk without locks there is none, and no other run removes the directory.
     lock: Option<F>,
@@ -49,6 +52,22 @@ fn dir_path(alloc: Global, folder: &str, number: u32) -> io::Result<String> {
 fn lock_path(alloc: Global, dir: &str) -> io::Result<String> {
     let path = format!(in alloc; "{dir}/lock")?;
     Ok(path)
+}
+
+// The path of what a directory has besides its lock.
+fn inner_path(alloc: Global, dir: &str) -> io::Result<String> {
+    let path = format!(in alloc; "{dir}/parts")?;
+    Ok(path)
+}
+
+// Removes a directory whose lock is held: that last, with the directory.
+fn remove_held<R: Files>(rt: &R, alloc: Global, dir: &str) -> io::Result<()> {
+    let inner = inner_path(alloc, dir)?;
+    match rt.remove_dir_all(alloc, inner.as_str()) {
+        Err(e) if e.kind() != ErrorKind::NotFound => return Err(e),
+        _ => {}
+    }
+    rt.remove_dir_all(alloc, dir)
 }
 
 // Whether an open file is still the one at a path: another run may have removed it, and made another.
@@ -96,7 +115,7 @@ where
     match try_to_hold(rt, lock.as_str()) {
         // It is held until all is removed, so that no other run takes what is being removed for its own.
         Held::Here(held) => {
-            let removed = rt.remove_dir_all(alloc, dir);
+            let removed = remove_held(rt, alloc, dir);
             drop(held);
             removed
         }
@@ -132,23 +151,45 @@ where
     }
 }
 
-// Makes a directory at this path for this run. None if another run has it.
-fn make_at<R: Files>(rt: &R, alloc: Global, path: String) -> io::Result<Option<OwnDir<R::File>>>
+// A directory in which a run's own things are, and its lock, as `make_lock` has it.
+type Inner<F> = (String, Option<F>);
+
+// Makes the lock of a directory that was made here, and the directory for all else. None if the first was taken for one that an ended
+// run left.
+fn make_inner<R: Files>(rt: &R, alloc: Global, dir: &str) -> io::Result<Option<Inner<R::File>>>
 where
     R::File: Lock,
 {
+    let lock = lock_path(alloc, dir)?;
+    let Some(lock) = make_lock(rt, lock.as_str())? else {
+        return Ok(None);
+    };
+    let path = inner_path(alloc, dir)?;
     match rt.create_dir(path.as_str()) {
+        Ok(()) => Ok(Some((path, lock))),
+        Err(e) if e.kind() == ErrorKind::NotFound => Ok(None),
+        Err(e) => Err(e),
+    }
+}
+
+// Makes a directory at this path for this run. None if another run has it.
+fn make_at<R: Files>(rt: &R, alloc: Global, dir: String) -> io::Result<Option<OwnDir<R::File>>>
+where
+    R::File: Lock,
+{
+    match rt.create_dir(dir.as_str()) {
         Ok(()) => {}
         Err(e) if e.kind() == ErrorKind::AlreadyExists => return Ok(None),
         Err(e) => return Err(e),
     }
-    let lock = lock_path(alloc, path.as_str())?;
-    match make_lock(rt, lock.as_str()) {
-        Ok(Some(lock)) => Ok(Some(OwnDir { path, lock })),
+    match make_inner(rt, alloc, dir.as_str()) {
+        Ok(Some((path, lock))) => Ok(Some(OwnDir { dir, path, lock })),
         Ok(None) => Ok(None),
         Err(e) => {
-            let _ = rt.remove_file(lock.as_str());
-            let _ = rt.remove_dir(path.as_str());
+            if let Ok(lock) = lock_path(alloc, dir.as_str()) {
+                let _ = rt.remove_file(lock.as_str());
+            }
+            let _ = rt.remove_dir(dir.as_str());
             Err(e)
         }
     }
@@ -175,15 +216,19 @@ where
 }
 
 impl<F: Drop> OwnDir<F> {
-    /// Where it is.
+    /// Where what it has is to be.
     pub fn path(&self) -> &str {
         self.path.as_str()
     }
 
     /// Removes it, with all that is in it.
     pub fn remove<R: Files>(self, rt: &R, alloc: Global) {
-        let OwnDir { path, lock } = self;
-        let _ = rt.remove_dir_all(alloc, path.as_str());
+        let OwnDir {
+            dir,
+            path: _path,
+            lock,
+        } = self;
+        let _ = remove_held(rt, alloc, dir.as_str());
         drop(lock);
     }
 }

@@ -467,8 +467,9 @@ fn files_are_replaced_where_a_disk_has_room_for_few(rt: HostRuntime) {
     drop(site);
 }
 
-/// Whether the directory for parts has nothing except its lock. It is removed.
+/// Whether the directory for parts has nothing except its lock and, empty, what is removed before that. It is removed.
 fn is_bare(rt: &impl Files) -> bool {
+    let _ = rt.remove_dir("disk/.wgetr%part0/parts");
     rt.remove_file("disk/.wgetr%part0/lock").is_ok() && rt.remove_dir("disk/.wgetr%part0").is_ok()
 }
 
