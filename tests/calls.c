@@ -1,11 +1,12 @@
-// Notes from outside which calls of the system a program makes, and has some do otherwise, for tests/system and tests/sessions.
+// Notes from outside which calls of the system a program makes, and has some do otherwise, for tests/system, tests/sessions and tests/upkeep.
 //     cc -O1 -shared -fPIC -o calls.so calls.c -ldl
 //
 // Preloaded, it adds a line to the file CALLS_FILE at each fsync, fdatasync, getaddrinfo and connect: the call, and the last part of the
 // file's name, the host or the address.
 //
 // CALLS_PLAN has plans with a comma between two, each `CALL NAME WHAT`, for the calls fsync, fdatasync, close, flock, fstat (a statx of
-// an open file), futimens, rename, recv, send, read, write, connect and getaddrinfo. NAME is the last part of the name of the file (of rename that which it had),
+// an open file), futimens, link, rename, recv, send, read, write, connect and getaddrinfo. NAME is the last part of the name of the file (of link
+// and rename that which it had),
 // or the host; * is any. WHAT is
 //   E..            the call fails with this error: EIO, or ENOSPC; a close closes all the same
 //   EINTR          the first such call is interrupted
@@ -160,6 +161,11 @@ int statx(int dir, const char *path, int flags, unsigned mask, struct statx *fou
 int futimens(int file, const struct timespec times[2])
 {
     return is_file_failed("futimens", file) ? -1 : NEXT(futimens)(file, times);
+}
+
+int link(const char *from, const char *to)
+{
+    return is_failed("link", from) ? -1 : NEXT(link)(from, to);
 }
 
 int rename(const char *from, const char *to)

@@ -11,15 +11,24 @@ use std::alloc::{AllocError, Global};
 use std::io::Read;
 use std::marker::Model;
 
+// A file that may be a page's.
+#[derive(Drop)]
+pub(crate) struct PageFile<F> {
+    pub(crate) path: String,
+    // Whether it has the page's own name.
+    pub(crate) is_own: bool,
+    pub(crate) opened: F,
+}
+
 /// A page of an earlier run whose file has as many bytes as it had.
 #[derive(Drop)]
 pub struct EarlierPage<'a, F: Read + Drop> {
     alloc: Global,
     entry: &'a Entry,
-    file: F,
+    file: PageFile<F>,
     // Other files that may be the page's, with as many bytes.
-    other: Option<F>,
-    last: Option<F>,
+    other: Option<PageFile<F>>,
+    last: Option<PageFile<F>>,
 }
 
 impl<'a, F: Read + Drop> Model for EarlierPage<'a, F> {
@@ -27,7 +36,7 @@ impl<'a, F: Read + Drop> Model for EarlierPage<'a, F> {
 
     ghost Value = { PageValue F };
 
-    ghost view = { λ p. record { entry = p.entry.now; file = p.file } };
+    ghost view = { λ p. record { entry = p.entry.now; file = p.file.opened } };
 }
 
 // Adds a line that ends in a number.
@@ -87,12 +96,12 @@ impl<'a, F: Read + Drop> EarlierPage<'a, F> {
     pub(crate) fn new(
         alloc: Global,
         entry: &'a Entry,
-        file: F,
-        other: Option<F>,
-        last: Option<F>,
+        file: PageFile<F>,
+        other: Option<PageFile<F>>,
+        last: Option<PageFile<F>>,
     ) -> EarlierPage<'a, F>
         ensures entry { result.entry ≡ entry.now }
-        ensures file { result.file ≡ file }
+        ensures file { result.file ≡ file.opened }
     {
         EarlierPage {
             alloc,
@@ -121,6 +130,22 @@ impl<'a, F: Read + Drop> EarlierPage<'a, F> {
         self.entry
     }
 
+    /// The path of its file, if that has the page's own name, and isn't what was kept of it elsewhere.
+    pub fn own_path(&self) -> Option<&str> {
+        if self.file.is_own {
+            Some(self.file.path.as_str())
+        } else {
+            None
+        }
+    }
+
+    /// Its file, of which nothing was read.
+    pub fn file(&self) -> &F
+        ensures { result.now ≡ self.now.file }
+    {
+        &self.file.opened
+    }
+
     /// The condition with which it is requested, if its server said by what one sees whether it changed.
     pub fn condition(&self) -> Result<Option<Condition>, AllocError>
         ensures { IfOk result (λ condition. condition ≡ condition_by self.now.entry) }
@@ -146,7 +171,12 @@ impl<'a, F: Read + Drop> EarlierPage<'a, F> {
             other: _other,
             last: _last,
         } = self;
+        let PageFile {
+            path: _path,
+            is_own: _is_own,
+            opened,
+        } = file;
         let head = head_of(alloc, entry)?;
-        Ok(RecordedStream::new(head, file))
+        Ok(RecordedStream::new(head, opened))
     }
 }

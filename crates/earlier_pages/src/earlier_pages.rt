@@ -3,7 +3,7 @@ ghost use Rattle.std.specs.Prelude.{◌≡◌, IfSome};
 ghost use Rattle.mirror_index.specs.Indexes.{HasThis};
 
 use crate::change_time::changed_at;
-use crate::earlier_page::EarlierPage;
+use crate::earlier_page::{EarlierPage, PageFile};
 use address::Address;
 use mirror_index::{Entry, Mark, MirrorIndex};
 use std::alloc::Global;
@@ -70,11 +70,22 @@ impl EarlierPages {
     }
 
     // The file of an entry's name with this before it and this ending, if it may be the entry's.
-    fn file<R: Files>(&self, rt: &R, entry: &Entry, before: &str, ending: &str) -> Option<R::File> {
+    fn file<R: Files>(
+        &self,
+        rt: &R,
+        entry: &Entry,
+        before: &str,
+        ending: &str,
+    ) -> Option<PageFile<R::File>> {
         let folder = self.folder.as_str();
         let name = entry.name();
         let path = format!(in self.alloc; "{folder}/{before}{name}{ending}").ok()?;
-        file_at(rt, path.as_str(), entry)
+        let opened = file_at(rt, path.as_str(), entry)?;
+        Some(PageFile {
+            path,
+            is_own: before.is_empty() && ending.is_empty(),
+            opened,
+        })
     }
 
     /// The page of an address, if one was kept and its file has as many bytes as it had, and wasn't changed since if the entry says when it

@@ -6,7 +6,7 @@ use address::{Address, Origin};
 use early_names::{EarlyRules, is_early};
 use fetcher::{Answer, Ask, Fetcher};
 use local_tree::DiskFolder;
-use part_keeper::{KeptPart, PartsDir, Standing};
+use part_keeper::{KeptPart, PartsDir, Standing, part_path};
 use robots_rules::RuleSet;
 use std::alloc::{AllocError, Global};
 use std::fs::Files;
@@ -118,9 +118,20 @@ where
         if !self.find_folder() {
             return false;
         }
-        match &mut self.folder {
+        let is_named = match &mut self.folder {
             Some(folder) => folder.name_early(self.own.as_str(), name, part),
             None => false,
+        };
+        if is_named && !part.is_received {
+            self.drop_link(part);
+        }
+        is_named
+    }
+
+    // Removes the name that a part still has if it is a further name of the file that has its new name already: renaming does nothing then.
+    fn drop_link(&self, part: &KeptPart) {
+        if let Ok(path) = part_path(self.alloc, self.own.as_str(), part.worker, part.number) {
+            let _ = self.rt.remove_file(path.as_str());
         }
     }
 

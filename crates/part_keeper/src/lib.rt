@@ -7,6 +7,7 @@ mod own_dir;
 mod part;
 mod part_counter;
 mod part_keeper;
+mod part_linker;
 mod parts_dir;
 
 pub use file_time::time_of;
@@ -14,4 +15,5 @@ pub use own_dir::{OwnDir, make_own_dir};
 pub use part::{KeptPart, Standing, part_path};
 pub use part_counter::PartCounter;
 pub use part_keeper::PartKeeper;
+pub use part_linker::PartLinker;
 pub use parts_dir::{PartsDir, lacks_descriptor};

@@ -1,20 +1,39 @@
-//! What keeps no body, and counts its bytes.
+//! What writes no body, and counts its bytes.
 ghost use Rattle.std.specs.Prelude.{◌≡◌, ◌+◌, ℕ, List, length, OnOk, IfOk};
 
 use crate::part::{KeptPart, Standing};
 use kept_bodies::{BodyKind, Keeper};
 use std::alloc::AllocError;
 
-/// Takes bodies that have no name to get. Nothing of them is kept, and nothing is written.
+/// Takes bodies of which nothing is to be written: they get no name, or their part is there already.
 #[derive(Drop)]
 pub struct PartCounter {
+    worker: u32,
+    number: u32,
+    // What is there of a body.
+    standing: Standing,
     len: u64,
 }
 
 impl PartCounter {
-    /// No body was begun. Takes no memory.
+    /// Bodies that get no name: nothing is there of them. None was begun. Takes no memory.
     pub fn new() -> PartCounter {
-        PartCounter { len: 0 }
+        PartCounter {
+            worker: u32::MAX,
+            number: u32::MAX,
+            standing: Standing::Lost,
+            len: 0,
+        }
+    }
+
+    // The body of a worker's part that is there already.
+    pub(crate) fn of_part(worker: u32, number: u32) -> PartCounter {
+        PartCounter {
+            worker,
+            number,
+            standing: Standing::Whole,
+            len: 0,
+        }
     }
 }
 
@@ -43,19 +62,19 @@ impl Keeper for PartCounter {
 
     fn finish(&mut self, kind: BodyKind) -> Result<KeptPart, AllocError> {
         Ok(KeptPart {
-            worker: u32::MAX,
-            number: u32::MAX,
+            worker: self.worker,
+            number: self.number,
             kind,
             len: self.len,
             is_received: true,
-            standing: Standing::Lost,
+            standing: self.standing,
         })
     }
 
     fn empty(&mut self) -> Result<KeptPart, AllocError> {
         Ok(KeptPart {
-            worker: u32::MAX,
-            number: u32::MAX,
+            worker: self.worker,
+            number: self.number,
             kind: BodyKind::Other,
             len: 0,
             is_received: true,

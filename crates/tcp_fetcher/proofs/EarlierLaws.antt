@@ -1,6 +1,6 @@
 -- What is received is the same without the digests of its bodies, and a page is answered by what an earlier run has of it.
 use Rattle.std.proofs.Common.{◌≡◌, ◌⊎◌, ◌∙◌, ◌≤◌, ℕ, suc, true, false, inl, inr, List, [], ◌∷◌, length, Option, Some, None, refl, sym, ap, subst}
-use Rattle.std.specs.Prelude.{IfOk, IfSome, OnErr, OnOk, Result, Ok, Err}
+use Rattle.std.specs.Prelude.{IfOk, IfSome, OnErr, OnOk, Result, Ok, Err, option_map}
 use Rattle.sha2.specs.Sha256.{sha256}
 use Rattle.address.specs.Address.{AddressText}
 use Rattle.body_digests.specs.Digests.{HoldsDigested}
@@ -23,7 +23,7 @@ use Rattle.response_reader.specs.Limits.{Limited}
 use Rattle.retries.specs.Keeping.{MayKeep, StandsForAnswer, asks_of, is_worth_answer}
 use Rattle.retries.specs.Tries.{AreTries, IsLastOf}
 use Rattle.tcp_connect.specs.Connecting.{Connecting}
-use Rattle.tcp_fetcher.specs.Answering.{AreMarked, HasMark, IsAnswered, IsAnsweredBy, IsLeft, IsOfEarlier, IsReceived, IsReceivedIfChanged, IsReceivedUnder, IsRecorded, IsTold, Lasting, has_status, lasting, not_received, site_of, without_digest}
+use Rattle.tcp_fetcher.specs.Answering.{AreMarked, HasMark, IsAnswered, IsAnsweredBy, IsLeft, IsOfEarlier, IsReceived, IsReceivedIfChanged, IsReceivedUnder, IsReadAgain, IsRecorded, IsTold, Lasting, has_status, lasting, not_received, site_of, without_digest}
 use Rattle.tcp_fetcher.specs.TcpFetching.{TcpFetching, conditioned}
 use Rattle.tcp_fetcher.specs.PartsFetching.{MayAnswerIn}
 use Rattle.tcp_fetcher.specs.declared.earlier.Earlier.{Earlier}
@@ -84,20 +84,25 @@ module _ {C : Type 0} (limits : Limited) (at : AddressText) (retries : Retried) 
   last_without most old new answer (earlier, tries, few, inr all) =
       (bare earlier, tries_without old earlier new answer tries, subst (λ n. n ≤ most) (sym (bare_length earlier)) few, inr (bare_length earlier ∙ all))
 
--- an answer of the recorded status, whose body has the recorded mark, and is read from an earlier run's file
-pub recorded : (limits : Limited) (links : LinkRules) (at : AddressText) (entry : Entry) (answer : Answer (Digested KeptPart)) (mark : Mark) (status : ℕ)
-    → mark ≡ entry.mark → status ≡ entry.head.status
-    → HasMark mark answer.body.digest × (has_status answer.outcome status ≡ true)
-    → StandsForAnswer (HoldsDigested holds_received) limits links at answer
+-- what is read again of a page's file is what was recorded
+pub recorded : (limits : Limited) (links : LinkRules) (at : AddressText) (entry : Entry) (answer : Answer (Digested KeptPart)) → IsReadAgain holds_received limits links at entry answer
     → (has_status answer.outcome entry.head.status ≡ true)
     × ((not_received (without_digest answer)).body.is_received ≡ false)
     × StandsForOne holds_part (not_received (without_digest answer)) (λ real. MayAnswerWithin limits links at real.outcome real.body × AreMarked entry.mark real.body.bytes)
-recorded limits links at entry answer mark status same_mark same_status (own, says) (real, (outcome, ((holds, received), of_body)), may) =
-    (subst (λ s. has_status answer.outcome s ≡ true) same_status says, refl, (real, (outcome, holds), (may, subst (λ (m : Mark). AreMarked m real.body.bytes) same_mark (marked mark own))))
+recorded limits links at entry answer (own, says, (real, (outcome, ((holds, received), of_body)), may)) = (says, refl, (real, (outcome, holds), (may, marked entry.mark own)))
   where
     marked : (m : Mark) → HasMark m answer.body.digest → AreMarked m real.body.bytes
     marked (Digest digest) is = sym (subst (λ (d : Option (List ℕ)). IfSome d (λ x. x ≡ sha256 real.body.bytes)) is of_body)
     marked (Changed time) is = tt
+
+-- the same of what was read again, if anything was
+pub answers_recorded : (fetcher : Lasting) (at : AddressText) (entry : Entry) (limits : Limited) (links : LinkRules) (read : Option (Answer (Digested KeptPart)))
+    → limits ≡ fetcher.limits → links ≡ fetcher.links → IfSome read (IsReadAgain holds_received limits links at entry)
+    → IfSome (option_map (λ answer. not_received (without_digest answer)) read) (IsRecorded fetcher at entry)
+answers_recorded fetcher at entry limits links None same_limits same_links again = tt
+answers_recorded fetcher at entry limits links (Some answer) same_limits same_links again =
+    recorded fetcher.limits fetcher.links at entry answer (subst (λ (l : LinkRules). IsReadAgain holds_received fetcher.limits l at entry answer) same_links
+    (subst (λ (l : Limited). IsReadAgain holds_received l links at entry answer) same_limits again))
 
 -- it is one that the site may give
 pub may_recorded : (fetcher : Lasting) (at : AddressText) (entry : Entry) (answer : Answer KeptPart) → IsRecorded fetcher at entry answer → MayAnswerIn (site_of fetcher) at answer.outcome answer.body

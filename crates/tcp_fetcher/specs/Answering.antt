@@ -2,6 +2,7 @@
 use Rattle.std.specs.Prelude.{◌≡◌, ◌⊎◌, ◌==◌, ℕ, Bool, true, false, List, Option, Some, None}
 use Rattle.sha2.specs.Sha256.{sha256}
 use Rattle.address.specs.Address.{AddressText}
+use Rattle.body_digests.specs.Digests.{HoldsDigested}
 use Rattle.body_digests.specs.declared.digesting.Digested.{Digested}
 use Rattle.fetcher.specs.declared.answer.Answer.{Answer}
 use Rattle.fetcher.specs.declared.fetcher.Ask.{Ask}
@@ -11,6 +12,7 @@ use Rattle.fetcher.specs.declared.outcome.Outcome.TheVariants.{Fault, Leaf, Move
 use Rattle.html_links.specs.declared.rules.LinkRules.{LinkRules}
 use Rattle.http_fetcher.specs.Fetching.{Fetching, StandsForOne, with_condition}
 use Rattle.http_fetcher.specs.Meanings.{MayAnswerWithin}
+use Rattle.kept_bodies.specs.Bodies.{BodyValue}
 use Rattle.mirror_index.specs.Entries.{Entry}
 use Rattle.mirror_index.specs.declared.entry.Mark.{Mark}
 use Rattle.mirror_index.specs.declared.entry.Mark.TheVariants.{Changed, Digest}
@@ -22,7 +24,7 @@ use Rattle.pacing.specs.Retries.{Retried}
 use Rattle.requests.specs.Conditions.{Condition}
 use Rattle.requests.specs.Requests.{Sending}
 use Rattle.response_reader.specs.Limits.{Limited}
-use Rattle.retries.specs.Keeping.{MayKeep, asks_of, is_worth_answer}
+use Rattle.retries.specs.Keeping.{MayKeep, StandsForAnswer, asks_of, is_worth_answer}
 use Rattle.retries.specs.Tries.{IsLastOf}
 use Rattle.tcp_connect.specs.Connecting.{Connecting}
 use Rattle.tcp_fetcher.specs.PartsFetching.{MayAnswerIn, PartsSite}
@@ -72,6 +74,11 @@ without_digest answer = record { outcome = answer.outcome; body = answer.body.ke
 abbrev pub HasMark : Mark → Option (List ℕ) → Type 0
 HasMark (Digest digest) own = own ≡ Some digest
 HasMark (Changed time) own = Unit {0}
+
+-- what is read again of an entry's page, into what keeps bodies so: a response of the entry's status, whose body has its mark
+abbrev pub IsReadAgain : (KeptPart → BodyValue → Type 0) → Limited → LinkRules → AddressText → Entry → Answer (Digested KeptPart) → Type 0
+IsReadAgain holds limits links at entry answer =
+    HasMark entry.mark answer.body.digest × (has_status answer.outcome entry.head.status ≡ true) × StandsForAnswer (HoldsDigested holds) limits links at answer
 
 -- bytes have the SHA-256 of a mark, if it has one
 abbrev pub AreMarked : Mark → List ℕ → Type 0

@@ -4,7 +4,8 @@ ghost use Rattle.std.specs.Arc.{arc_value};
 ghost use Rattle.fetcher.specs.Logs.{GainedAtMost};
 ghost use Rattle.fetcher.specs.declared.fetcher.Ask.TheVariants as ask;
 ghost use Rattle.http_fetcher.specs.Fetching.{with_condition};
-ghost use Rattle.tcp_fetcher.specs.Answering.{HasMark, IsAnswered, IsConcluded, IsLeft, IsReceived, IsReceivedIfChanged, IsReceivedUnder, IsRecorded, IsTold, has_status, is_unchanged, lasting, not_received, without_digest};
+ghost use Rattle.response_reader.specs.Limits.{limited};
+ghost use Rattle.tcp_fetcher.specs.Answering.{HasMark, IsAnswered, IsConcluded, IsLeft, IsReceived, IsReceivedIfChanged, IsReceivedUnder, IsReadAgain, IsRecorded, IsTold, has_status, is_unchanged, lasting, not_received, without_digest};
 ghost use Rattle.tcp_fetcher.specs.PartsFetching.{MayAnswerIn, MayRuleIn, PartsSite, parts_site};
 
 use crate::earlier::{Earlier, IndexNote};
@@ -15,17 +16,19 @@ use body_digests::{Digested, Digesting};
 use earlier_pages::EarlierPage;
 use early_names::EarlyRules;
 use fetcher::{Answer, Ask, Fetcher, Outcome};
+use html_links::LinkRules;
 use http_fetcher::answer_over;
-use kept_bodies::BodyKind;
+use kept_bodies::{BodyKind, Keeper};
 use mirror_index::{KeptHead, Mark};
-use part_keeper::{KeptPart, PartCounter, PartKeeper, PartsDir, Standing};
+use part_keeper::{KeptPart, PartCounter, PartKeeper, PartLinker, PartsDir, Standing};
 use requests::Condition;
 use response_answer::PageSink;
-use response_reader::TcpWire;
+use response_reader::{Limits, TcpWire};
 use robots_rules::RuleSet;
 use run_failures::LossKind;
 use std::alloc::{AllocError, Global};
 use std::fs::Files;
+use std::io::Read;
 use std::marker::Model;
 use std::net::Net;
 use std::sync::{Arc, Wait};
@@ -42,6 +45,9 @@ where
     sink: PageSink<Digesting<PartKeeper<'a, R>>>,
     // Takes pages that aren't kept.
     passing: PageSink<PartCounter>,
+    linker: PartLinker<'a, R>,
+    // What took the last page, if its part is a link to the file that it was read from.
+    linked: Option<PageSink<Digesting<PartCounter>>>,
     rules: Option<Arc<EarlyRules>>,
     // What is known of an earlier run's pages, if an index is kept.
     earlier: Option<Arc<Earlier>>,
@@ -65,6 +71,8 @@ where
             inner: _inner,
             sink: _sink,
             passing: _passing,
+            linker: _linker,
+            linked: _linked,
             rules: _rules,
             earlier: _earlier,
             last: _last,
@@ -113,6 +121,8 @@ where
             inner,
             sink: PageSink::new(alloc, Digesting::new(keeper, earlier.is_some())),
             passing: PageSink::new(alloc, PartCounter::new()),
+            linker: PartLinker::new(rt, alloc, parts),
+            linked: None,
             rules,
             earlier,
             last: None,
@@ -147,7 +157,28 @@ where
         Ok(self.taken(answer))
     }
 
-    // The page of an earlier run again, if this file of it still has the bytes that it had.
+    // A link to the file of a page's own name, if the page has a digest and the disk has such links: a file whose time counts has to keep it.
+    fn link_to(&mut self, page: &EarlierPage<'_, R::File>) -> Option<PartCounter>
+        ensures { self.new ≡ self.old }
+    {
+        match page.entry().mark() {
+            Mark::Digest(_) => self.linker.link(page.own_path()?, page.file()),
+            Mark::Changed(_) => None,
+        }
+    }
+
+    // A page that was read again is the answer, if it was.
+    fn again(&mut self, read: Option<Answer<Digested<KeptPart>>>) -> Option<Answer<KeptPart>>
+        ensures answer { result ≡ option_map (λ answer. not_received (without_digest answer)) read }
+        ensures fetcher { self.new ≡ self.old }
+    {
+        match read {
+            Some(answer) => Some(not_received(self.taken(answer))),
+            None => None,
+        }
+    }
+
+    // The page of an earlier run again, if this file of it still has the bytes that it had. Its part is a link to the file if there can be one, else a copy.
     fn read_again(
         &mut self,
         at: &Address,
@@ -156,16 +187,16 @@ where
         ensures recorded { IfOk result (λ found. IfSome found (IsRecorded (lasting self.old) at.now page.entry.entry)) }
         ensures fetcher { self.new ≡ self.old }
     {
-        let mark = page.entry().mark();
-        let status = page.entry().head().status();
-        let mut wire = TcpWire::new(page.into_stream()?);
         let links = self.inner.link_rules();
         let limits = self.inner.limits();
-        let answer = answer_over(self.alloc, &mut wire, at, &mut self.sink, links, limits)?;
-        if is_recorded(&answer, mark, status) {
-            return Ok(Some(not_received(self.taken(answer))));
-        }
-        Ok(None)
+        let Some(part) = self.link_to(&page) else {
+            let read = read_into(self.alloc, page, at, &mut self.sink, links, limits)?;
+            return Ok(self.again(read));
+        };
+        let mut sink = PageSink::new(self.alloc, Digesting::new(part, true));
+        let read = read_into(self.alloc, page, at, &mut sink, links, limits)?;
+        set(&mut self.linked, Some(sink));
+        Ok(self.again(read))
     }
 
     // The same of one of two files: this one, and the other that the page may have.
@@ -304,14 +335,15 @@ where
         let Some(status) = status_noted(answer) else {
             return Ok(None);
         };
-        let kind = copy_of(self.alloc, self.sink.content_type())?;
-        let tag = copy_of(self.alloc, self.sink.etag())?;
-        let changed = copy_of(self.alloc, self.sink.last_modified())?;
+        let head = match &self.linked {
+            Some(sink) => head_of(self.alloc, status, sink)?,
+            None => head_of(self.alloc, status, &self.sink)?,
+        };
         Ok(Some(IndexNote {
             at: at.try_clone()?,
             len: answer.body.len,
             digest: self.last,
-            head: KeptHead::new(status, kind, tag, changed),
+            head,
         }))
     }
 
@@ -323,6 +355,11 @@ where
             None
         }
     }
+}
+
+// This is held from now on.
+fn set<T: Drop>(held: &mut Option<T>, value: Option<T>) {
+    *held = value;
 }
 
 // Whether the server said that a page is as it was (RFC 9110, section 15.4.5).
@@ -361,6 +398,28 @@ fn is_recorded(answer: &Answer<Digested<KeptPart>>, mark: Mark, status: u16) -> 
     ensures { IsTrue result → HasMark mark answer.now.body.digest × (has_status answer.now.outcome status ≡ true) }
 {
     has_mark(&answer.body, mark) && has_status(&answer.outcome, status)
+}
+
+// The page of an earlier run by this sink, if its file still has the bytes that it had.
+fn read_into<F: Read + Drop, K: Keeper<Kept = KeptPart>>(
+    alloc: Global,
+    page: EarlierPage<'_, F>,
+    at: &Address,
+    sink: &mut PageSink<Digesting<K>>,
+    links: LinkRules,
+    limits: Limits,
+) -> Result<Option<Answer<Digested<KeptPart>>>, AllocError>
+    ensures { IfOk result (λ found. IfSome found (IsReadAgain K.holds (limited limits) links at.now page.entry.entry)) }
+{
+    let mark = page.entry().mark();
+    let status = page.entry().head().status();
+    let mut wire = TcpWire::new(page.into_stream()?);
+    let answer = answer_over(alloc, &mut wire, at, sink, links, limits)?;
+    if is_recorded(&answer, mark, status) {
+        Ok(Some(answer))
+    } else {
+        Ok(None)
+    }
 }
 
 // An answer whose body was read from an earlier run's file.
@@ -402,6 +461,18 @@ fn copy_of(alloc: Global, value: Option<&[u8]>) -> Result<Option<Vec<u8>>, Alloc
         Some(value) => Ok(Some(Vec::from_slice(alloc, value)?)),
         None => Ok(None),
     }
+}
+
+// What a page's answer was recorded with, by what took it.
+fn head_of<K: Keeper>(
+    alloc: Global,
+    status: u16,
+    sink: &PageSink<K>,
+) -> Result<KeptHead, AllocError> {
+    let kind = copy_of(alloc, sink.content_type())?;
+    let tag = copy_of(alloc, sink.etag())?;
+    let changed = copy_of(alloc, sink.last_modified())?;
+    Ok(KeptHead::new(status, kind, tag, changed))
 }
 
 // Whether a page of this address is kept.
@@ -459,6 +530,7 @@ where
         ensures known { self.new.known ≡ self.old.known }
     {
         self.last = None;
+        set(&mut self.linked, None);
         self.is_requested = true;
         self.inner.note_ask(at)?;
         if !keeps(&self.rules, at) {
