@@ -55,6 +55,7 @@ forms : map forms_of table ≡ (codes "r", codes "recursive", None) ∷ (codes "
     ∷ ([], codes "https-proxy", Some (codes "URL")) ∷ ([], codes "trust-proxy", None)
     ∷ ([], codes "http-proxy", Some (codes "URL")) ∷ ([], codes "without-proxy", Some (codes "LIST")) ∷ ([], codes "no-proxy", None)
     ∷ ([], codes "max-urls", Some (codes "N")) ∷ ([], codes "map", None) ∷ ([], codes "record", None) ∷ ([], codes "resume", Some (codes "FILE"))
+    ∷ ([], codes "retry-failed", None)
     ∷ (codes "i", codes "input-file", Some (codes "FILE")) ∷ (codes "F", codes "force-html", None) ∷ (codes "B", codes "base", Some (codes "URL"))
     ∷ (codes "P", codes "directory-prefix", Some (codes "DIR")) ∷ (codes "nd", codes "no-directories", None)
     ∷ (codes "x", codes "force-directories", None) ∷ (codes "nH", codes "no-host-directories", None) ∷ ([], codes "protocol-directories", None)

@@ -61,11 +61,13 @@ upkeep_of found =
 abbrev pub agrees : Bool → Upkeep → Bool
 agrees has_record u = not (u.timestamps && u.skips) && not (has_record && (u.timestamps || u.skips || u.continues)) && (not u.deletes_gone || u.timestamps || u.skips)
 
--- `--compression` and `--regex-type` have values that they may have, and what becomes of what earlier runs left can be so
+-- `--compression` and `--regex-type` have values that they may have, what becomes of what earlier runs left can be so, and what failed is
+-- requested again of a record that is resumed
 unfoldable pub are_good : List Row → Bool
 are_good found =
     is_plain_value (first_of (codes "compression") found) && is_type (first_of (codes "regex-type") found)
     && agrees (is_some (first_of (codes "resume") found) || is_some (first_of (codes "save") found)) (upkeep_of found)
+    && (not (is_set (codes "retry-failed") found) || is_some (first_of (codes "resume") found))
 
 -- ---- which links of pages are taken
 
@@ -121,6 +123,7 @@ pub record Ordered : Type 0 where
   pub proxies : Proxies
   pub trusts : Bool
   pub resume : Option Text
+  pub retries_failed : Bool
   pub save : Option Text
   pub rejected_log : Option Text
 
@@ -375,6 +378,7 @@ ordered found counts proxies names fields manner retries level patterns director
   proxies = proxies;
   trusts = is_set (codes "trust-proxy") found;
   resume = first_of (codes "resume") found;
+  retries_failed = is_set (codes "retry-failed") found;
   save = first_of (codes "save") found;
   rejected_log = first_of (codes "rejected-log") found;
 }
@@ -536,6 +540,7 @@ ordered_by order = record {
   proxies = order.proxies;
   trusts = order.trusts_proxy;
   resume = order.resume;
+  retries_failed = order.retries_failed;
   save = order.save;
   rejected_log = order.rejected_log;
 }

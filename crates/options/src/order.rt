@@ -171,6 +171,8 @@ pub struct Order {
     pub trusts_proxy: bool,
     /// The record whose answers aren't requested again.
     pub resume: Option<FilePath>,
+    /// Whether what it has as failed is requested again.
+    pub retries_failed: bool,
     /// The record that is written of what was answered.
     pub save: Option<FilePath>,
     /// The file that takes the log of the links that filters reject.
@@ -304,6 +306,7 @@ impl Order {
             proxies,
             trusts_proxy,
             resume,
+            retries_failed,
             save,
             rejected_log,
         } = self;
@@ -330,6 +333,7 @@ impl Order {
             proxies,
             trusts_proxy,
             resume,
+            retries_failed,
             save,
             rejected_log,
         }
@@ -362,6 +366,7 @@ impl Order {
             proxies,
             trusts_proxy,
             resume,
+            retries_failed,
             save,
             rejected_log,
         } = self;
@@ -388,6 +393,7 @@ impl Order {
             proxies,
             trusts_proxy,
             resume,
+            retries_failed,
             save,
             rejected_log,
         }

@@ -10,7 +10,7 @@ ghost use Rattle.follow_filters.specs.Limits.{is_in_range};
 ghost use Rattle.follow_filters.specs.declared.plan.TheConstants.{MAX_PER_HOST, MAX_URLS};
 ghost use Rattle.options.specs.declared.order.TheConstants.{MAX_WORKERS};
 ghost use Rattle.follow_filters.specs.declared.limit.Limit.TheVariants.{AtMost};
-ghost use Rattle.options.specs.Given.{level_of, list_of};
+ghost use Rattle.options.specs.Given.{is_set, level_of, list_of};
 ghost use Rattle.pacing.specs.Manners.{mannered};
 ghost use Rattle.pacing.specs.Retries.{retries_by};
 ghost use Rattle.options.specs.Naming.{naming_by};
@@ -147,6 +147,13 @@ fn agrees(has_record: bool, upkeep: Upkeep) -> bool
     !upkeep.deletes_gone || upkeep.timestamps || upkeep.skips
 }
 
+// Whether there is a record to resume if what failed is to be requested again.
+fn has_failures(matches: &ArgMatches) -> bool
+    ensures { result ≡ (not (is_set (codes "retry-failed") (rows_of (found_of matches.now))) || is_some (first_of (codes "resume") (rows_of (found_of matches.now)))) }
+{
+    !is_set(matches, "retry-failed") || given(matches, "resume").is_some()
+}
+
 // What is wrong with words that `clap` takes: an encoding of bodies is requested, or a kind of expressions that isn't known, or words that
 // exclude each other are there.
 #[tactic(auto, unfolding(crate::specs::Order::are_good))]
@@ -157,7 +164,7 @@ fn word_fault(matches: &ArgMatches) -> Option<LineFault>
     if !is_plain_value(given(matches, "compression")) || !is_type(given(matches, "regex-type")) {
         return Some(LineFault::Words(ErrorKind::InvalidValue));
     }
-    if agrees(has_record(matches), upkeep(matches)) {
+    if agrees(has_record(matches), upkeep(matches)) && has_failures(matches) {
         None
     } else {
         Some(LineFault::Words(ErrorKind::ArgumentConflict))
@@ -846,6 +853,7 @@ fn filled(
         proxies,
         trusts_proxy: is_set(matches, "trust-proxy"),
         resume: paths.resume,
+        retries_failed: is_set(matches, "retry-failed"),
         save: paths.save,
         rejected_log: paths.rejected_log,
     }

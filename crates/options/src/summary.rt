@@ -13,7 +13,7 @@ pub(crate) struct Summary<T> {
 }
 
 // An option that isn't here isn't in the help.
-const SUMMARY: [Summary<&str>; 101] = [
+const SUMMARY: [Summary<&str>; 102] = [
     Summary {
         name: "recursive",
         says: "follow links",
@@ -257,6 +257,10 @@ const SUMMARY: [Summary<&str>; 101] = [
     Summary {
         name: "resume",
         says: "what this record has isn't asked for again",
+    },
+    Summary {
+        name: "retry-failed",
+        says: "with --resume: request again what failed",
     },
     Summary {
         name: "input-file",

@@ -40,7 +40,7 @@ pub(crate) struct Row<T> {
 }
 
 /// The options. What each does is in `summary.rt`: a constant's proof takes time for each pair of a text and a byte in it.
-const TABLE: [Row<&str>; 102] = [
+const TABLE: [Row<&str>; 103] = [
     Row {
         short: "r",
         name: "recursive",
@@ -411,6 +411,12 @@ const TABLE: [Row<&str>; 102] = [
         short: "",
         name: "resume",
         kind: OptionKind::Value("FILE"),
+        heading: "",
+    },
+    Row {
+        short: "",
+        name: "retry-failed",
+        kind: OptionKind::Flag,
         heading: "",
     },
     Row {
@@ -1180,7 +1186,7 @@ pub(crate) fn insteads() -> &'static [Instead<&'static str>]
 }
 
 /// The long forms of options that Wget doesn't have, and of their opposites.
-const OWN: [&str; 26] = [
+const OWN: [&str; 28] = [
     "--answer-timeout",
     "--crawl-delay",
     "--delete-gone",
@@ -1193,6 +1199,7 @@ const OWN: [&str; 26] = [
     "--no-delete-gone",
     "--no-map",
     "--no-record",
+    "--no-retry-failed",
     "--no-robots",
     "--no-span-requisites",
     "--no-trace",
@@ -1200,6 +1207,7 @@ const OWN: [&str; 26] = [
     "--per-host",
     "--record",
     "--resume",
+    "--retry-failed",
     "--robots",
     "--save",
     "--span-requisites",
