@@ -72,8 +72,11 @@ def entry_at(text, start, version):
             end, faults, status = hops_at(text, end, int(count))
         case [b"robots", address, length], 1:
             end = behind_bytes(text, end, length)
-        case [b"rules", b"all" | b"none", address], 1:
+        case [b"rules", b"all", address], 1:
             pass
+        case [b"rules", b"none", address], 1:
+            # Its robots file wasn't received: in version 2 this is a fault.
+            faults.append("device")
         case _:
             raise Wrong(f"the line {line[:80]!r} at byte {start}")
     return Entry(line.split(b" ")[0].decode(), address.decode(), start, end, faults, status)

@@ -1,6 +1,6 @@
 -- What notes have for the robots entries of version 1: chains of one hop with the same rules.
-use Rattle.std.proofs.Common.{◌≡◌, ℕ, ◌<◌, ◌≤◌, ◌++◌, ◌∙◌, min, Result, Err, IfOk, true, false, cond, List, [], ◌∷◌, Some, None, Ok, refl, ap, inl, inr, length, take, arith, length-append}
-use Rattle.std.specs.Prelude.{fold, map, nat_lt}
+use Rattle.std.proofs.Common.{◌≡◌, ℕ, ◌<◌, ◌≤◌, ◌++◌, ◌∙◌, min, Result, Err, IfOk, Bool, true, false, cond, List, [], ◌∷◌, Some, None, Ok, refl, ap, inl, inr, length, take, arith, length-append}
+use Rattle.std.specs.Prelude.{fold, map, nat_lt, not}
 use Rattle.std.specs.List.{list_all, slice_split, filter_map, before_last}
 use Rattle.std.specs.Char.{is_ascii_digit}
 use Rattle.std.proofs.lemmas.Bool.{cases_lt, lt-ltb}
@@ -8,7 +8,7 @@ use Rattle.std.proofs.lemmas.List.{take_all, take-take, take_min, length-take}
 use Rattle.std.proofs.lemmas.List.Elements.{All-nil}
 use Rattle.std.proofs.lemmas.List.Sums.{AllPass-from_list_all}
 use Rattle.httparse.specs.Grammar.{IsField, crlf, is_value_byte, ResponseHead, IsResponseHead, print_response}
-use Rattle.answer_notes.specs.RobotsAnswers.{rules_by_status, all_allowed}
+use Rattle.answer_notes.specs.RobotsAnswers.{rules_by_status, all_allowed, none_allowed}
 use Rattle.answer_notes.specs.Tellings.{rules_told}
 use Rattle.answer_notes.specs.declared.told.Told.TheVariants.{Whole}
 use Rattle.response_reader.specs.Fields.{framing_of, parts_of}
@@ -137,3 +137,14 @@ missing_rules r body is = ap (λ (r : ResponseParts). rules_told (Whole r)) is
 pub if_ok : {T E : Type 0} {P Q : T → Type 0} (r : Result T E) → ((x : T) → P x → Q x) → IfOk r P → IfOk r Q
 if_ok (Ok x) f p = f x p
 if_ok (Err e) f p = p
+
+-- ---- what forbids all
+
+-- no file does
+pub file_is_open : (file : List ℕ) → (rules_in file).closed ≡ false
+unfolding rules_in
+file_is_open file = refl
+
+pub bare_is_closed : (allowed : Bool) → (cond allowed all_allowed none_allowed).closed ≡ not allowed
+bare_is_closed true = refl
+bare_is_closed false = refl

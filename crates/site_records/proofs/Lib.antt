@@ -2,6 +2,7 @@ pub mod FormLaws
 pub mod EntryLaws
 pub mod ChainLaws
 pub mod ReadLaws
+pub mod ReceivedLaws
 pub mod ResumptionLaws
 pub mod OneEntryLaws
 pub mod WrittenEntryLaws

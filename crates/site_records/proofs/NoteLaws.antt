@@ -14,10 +14,11 @@ use Rattle.answer_notes.specs.declared.noted.Noted.{Noted}
 use Rattle.answer_notes.specs.declared.noted.Noted.TheVariants.{Page, Chain}
 use Rattle.site_records.specs.declared.reading.RecordReading.{RecordReading}
 use Rattle.site_records.specs.Entries.{ruled, chained, IsReadAs, IsToldIn}
+use Rattle.site_records.specs.Received.{has_lost}
 use Rattle.site_records.specs.Records.{answers_of}
 use Rattle.site_records.specs.WrittenEntries.{note_entry}
 use Rattle.site_records.specs.inner.RecordNotes.{AddsNote}
-use Rattle.site_records.specs.inner.Readings.{Keeps, KeepsNote}
+use Rattle.site_records.specs.inner.Readings.{Keeps, KeepsNote, with_lost}
 use Rattle.html_links.specs.declared.rules.LinkRules.{LinkRules}
 
 -- what bytes contain as a response is what they answer
@@ -32,7 +33,7 @@ answer_is links at t a outcome body = λ i. record { outcome = outcome i; body =
 
 -- a note is kept if notes are, and says its own entry
 note_added : (keeps : Bool) (links : LinkRules) (old new : List Noted) (note : Noted) → new ≡ cond keeps (old ++ note ∷ []) old → AddsNote keeps links old (note_entry links note) new
-note_added true links old new note is = (note, is, record { answers = refl; rules = refl })
+note_added true links old new note is = (note, is, record { answers = refl; rules = refl; each = refl })
 note_added false links old new note is = is
 
 -- what was received for an address is kept after the others, and then its note
@@ -42,6 +43,7 @@ pub keeps_page : (old mid new : RecordReading) (at : AddressText) (t : Told) →
 keeps_page old mid new at t vacant first answers second items = record {
   answers = ap (λ (r : RecordReading). r.answers.entries) second ∙ answers;
   rules = ap (λ (r : RecordReading). r.rules.entries) second ∙ ap (λ (r : RecordReading). r.rules.entries) first ∙ sym (append-nil old.rules.entries);
+  lost = ap (λ (r : RecordReading). r.lost.keys) second ∙ ap (λ (r : RecordReading). r.lost.keys) first;
   links = ap (λ (r : RecordReading). r.links) second ∙ ap (λ (r : RecordReading). r.links) first;
   version = ap (λ (r : RecordReading). r.version) second ∙ ap (λ (r : RecordReading). r.version) first;
   keeps_notes = ap (λ (r : RecordReading). r.keeps_notes) second ∙ ap (λ (r : RecordReading). r.keeps_notes) first;
@@ -52,11 +54,12 @@ keeps_page old mid new at t vacant first answers second items = record {
 
 -- the rules of a chain are kept after the others, and its note
 pub keeps_chain : (old new : RecordReading) (c : ChainValue) → lookup (bytes_eq c.of) old.rules.entries ≡ None → new.rules.entries ≡ old.rules.entries ++ (c.of, rules_of_hops c.hops) ∷ []
-    → new.answers.entries ≡ old.answers.entries → new.links ≡ old.links → new.version ≡ old.version → new.keeps_notes ≡ old.keeps_notes
+    → new.lost.keys ≡ with_lost old.lost.keys (has_lost c.hops) c.of → new.answers.entries ≡ old.answers.entries → new.links ≡ old.links → new.version ≡ old.version → new.keeps_notes ≡ old.keeps_notes
     → new.notes.items ≡ cond old.keeps_notes (old.notes.items ++ Chain c ∷ []) old.notes.items → KeepsNote old (Chain c) new
-keeps_chain old new c vacant rules answers links version keeps items = record {
+keeps_chain old new c vacant rules lost answers links version keeps items = record {
   answers = answers ∙ sym (append-nil old.answers.entries);
   rules = rules;
+  lost = lost;
   links = links;
   version = version;
   keeps_notes = keeps;
@@ -64,11 +67,12 @@ keeps_chain old new c vacant rules answers links version keeps items = record {
   is_new = vacant;
 }
 
--- a chain is kept as its rules are
-pub keeps_rules : (old new : RecordReading) (c : ChainValue) → KeepsNote old (Chain c) new → Keeps old (ruled c.of (rules_of_hops c.hops)) new
-keeps_rules old new c keeps = record {
+-- a chain is kept as its rules are, if they forbid all just if it failed
+pub keeps_rules : (old new : RecordReading) (c : ChainValue) → has_lost c.hops ≡ (rules_of_hops c.hops).closed → KeepsNote old (Chain c) new → Keeps old (ruled c.of (rules_of_hops c.hops)) new
+keeps_rules old new c same keeps = record {
   answers = keeps.answers;
   rules = keeps.rules;
+  lost = keeps.lost ∙ ap (λ b. with_lost old.lost.keys b c.of) same;
   links = keeps.links;
   version = keeps.version;
   keeps_notes = keeps.keeps_notes;
@@ -77,5 +81,5 @@ keeps_rules old new c keeps = record {
 }
   where
     noted : (b : Bool) (was now : List Noted) → AddsNote b old.links was (chained c.of c.hops) now → AddsNote b old.links was (ruled c.of (rules_of_hops c.hops)) now
-    noted true was now (note, is, says) = (note, is, record { answers = says.answers; rules = says.rules })
+    noted true was now (note, is, says) = (note, is, record { answers = says.answers; rules = says.rules; each = says.each ∙ ap (λ b. record { answers = []; rules = (c.of, rules_of_hops c.hops) ∷ []; failed = b } ∷ []) same })
     noted false was now is = is

@@ -1,7 +1,8 @@
 -- A record that is read so far, and how it ends.
-use Rattle.std.proofs.Common.{◌≡◌, ◌≢◌, ◌==◌, ℕ, ◌+◌, ◌<◌, ◌≤◌, ◌++◌, ◌∙◌, Bool, true, false, List, [], ◌∷◌, Option, Some, None, refl, sym, ap, subst, inl, inr, length, arith, take, drop, map}
+use Rattle.std.proofs.Common.{cond, ◌≡◌, ◌≢◌, ◌==◌, ℕ, ◌+◌, ◌<◌, ◌≤◌, ◌++◌, ◌∙◌, Bool, true, false, List, [], ◌∷◌, Option, Some, None, refl, sym, ap, subst, inl, inr, length, arith, take, drop, map}
 use Rattle.std.specs.Str.{bytes_eq}
-use Rattle.std.proofs.lemmas.List.{take-append-drop, length-append, map-append}
+use Rattle.std.specs.Map.{lookup}
+use Rattle.std.proofs.lemmas.List.{append-nil, append_assoc, take-append-drop, length-append, map-append}
 use Rattle.std.proofs.lemmas.Bool.{eqb-true}
 use Rattle.std.proofs.lemmas.Slice.Eq.{bytes_eq-Decides}
 use Rattle.std.proofs.Math.Seq.{take-append_seam}
@@ -22,7 +23,8 @@ use Rattle.answer_notes.specs.declared.noted.Noted.{Noted}
 use Rattle.site_records.specs.WrittenEntries.{note_entry}
 use Rattle.site_records.specs.RecordNotes.{HasNotes}
 use Rattle.site_records.specs.inner.RecordNotes.{AddsNote}
-use Rattle.site_records.specs.inner.Readings.{Reads, IsBad, fault_at}
+use Rattle.site_records.specs.inner.Readings.{Reads, IsBad, fault_at, lost_of, is_among, with_lost, lost_with}
+use Rattle.site_records.specs.Received.{has_lost, stating}
 use Rattle.html_links.specs.declared.rules.LinkRules.{LinkRules}
 
 -- the entries so far are kept, and this is the rest
@@ -33,23 +35,64 @@ pub record IsReadTo (links : LinkRules) (bytes : List ℕ) (reading : RecordRead
   pub front : IsFront reading.version links text above rest
   pub answers : reading.answers.entries ≡ answers_of above
   pub rules : reading.rules.entries ≡ rules_of above
+  pub lost : reading.lost.keys ≡ lost_of above
   pub robots_is : reading.links ≡ links
   pub noted : HasNotes reading.keeps_notes links reading.notes.items above
   pub count : number ≡ line_count above + 1
   pub within : number + length rest < length bytes
 
 -- the answers of more entries are those of the first and those of the others
-answers_of-append : (xs ys : List Entry) → answers_of (xs ++ ys) ≡ answers_of xs ++ answers_of ys
+pub answers_of-append : (xs ys : List Entry) → answers_of (xs ++ ys) ≡ answers_of xs ++ answers_of ys
 answers_of-append [] ys = refl
 answers_of-append (answered at a ∷ xs) ys = ap (λ l. (at, a) ∷ l) (answers_of-append xs ys)
 answers_of-append (ruled of r ∷ xs) ys = answers_of-append xs ys
 answers_of-append (chained of hops ∷ xs) ys = answers_of-append xs ys
 
-rules_of-append : (xs ys : List Entry) → rules_of (xs ++ ys) ≡ rules_of xs ++ rules_of ys
+pub rules_of-append : (xs ys : List Entry) → rules_of (xs ++ ys) ≡ rules_of xs ++ rules_of ys
 rules_of-append [] ys = refl
 rules_of-append (answered at a ∷ xs) ys = rules_of-append xs ys
 rules_of-append (ruled of r ∷ xs) ys = ap (λ l. (of, r) ∷ l) (rules_of-append xs ys)
 rules_of-append (chained of hops ∷ xs) ys = ap (λ l. (of, rules_of_hops hops) ∷ l) (rules_of-append xs ys)
+
+pub lost_of-append : (xs ys : List Entry) → lost_of (xs ++ ys) ≡ lost_of xs ++ lost_of ys
+lost_of-append [] ys = refl
+lost_of-append (answered at a ∷ xs) ys = lost_of-append xs ys
+lost_of-append (ruled of r ∷ xs) ys = ap (λ l. cond r.closed (of ∷ []) [] ++ l) (lost_of-append xs ys) ∙ sym (append_assoc (cond r.closed (of ∷ []) []) (lost_of xs) (lost_of ys))
+lost_of-append (chained of hops ∷ xs) ys = ap (λ l. cond (has_lost hops) (of ∷ []) [] ++ l) (lost_of-append xs ys) ∙ sym (append_assoc (cond (has_lost hops) (of ∷ []) []) (lost_of xs) (lost_of ys))
+
+-- a key that isn't the first, and what is looked up after it
+pub passed : {X : Type 0} (b : Bool) (x : X) (rest : Option X) → cond b (Some x) rest ≡ None → (b ≡ false) × (rest ≡ None)
+passed true x rest e = absurd cc
+passed false x rest e = (refl, e)
+
+-- an origin without rules isn't among those that were lost
+pub not_lost : (of : OriginText) (said : List Entry) → lookup (bytes_eq of) (rules_of said) ≡ None → is_among (lost_of said) of ≡ false
+not_lost of [] fresh = refl
+not_lost of (answered at a ∷ more) fresh = not_lost of more fresh
+not_lost of (ruled o r ∷ more) fresh =
+    let p = passed (bytes_eq of o) r (lookup (bytes_eq of) (rules_of more)) fresh in
+    one r.closed p.0 (not_lost of more p.1)
+  where
+    one : (b : Bool) → bytes_eq of o ≡ false → is_among (lost_of more) of ≡ false → is_among (cond b (o ∷ []) [] ++ lost_of more) of ≡ false
+    one true apart rest = rw (apart, rest) refl
+    one false apart rest = rest
+not_lost of (chained o hops ∷ more) fresh =
+    let p = passed (bytes_eq of o) (rules_of_hops hops) (lookup (bytes_eq of) (rules_of more)) fresh in
+    one (has_lost hops) p.0 (not_lost of more p.1)
+  where
+    one : (b : Bool) → bytes_eq of o ≡ false → is_among (lost_of more) of ≡ false → is_among (cond b (o ∷ []) [] ++ lost_of more) of ≡ false
+    one true apart rest = rw (apart, rest) refl
+    one false apart rest = rest
+
+-- an origin that isn't there goes after the others
+after_others : (lost : List OriginText) (failed : Bool) (of : OriginText) → is_among lost of ≡ false → with_lost lost failed of ≡ lost ++ (cond failed (of ∷ []) [] ++ [])
+after_others lost true of apart = ap (λ b. cond b lost (lost ++ of ∷ [])) apart
+after_others lost false of apart = sym (append-nil lost)
+
+lost_grows : (said : List Entry) (e : Entry) → IsNew (answers_of said) (rules_of said) e → lost_with (lost_of said) e ≡ lost_of (said ++ e ∷ [])
+lost_grows said (answered at a) fresh = sym (lost_of-append said (answered at a ∷ []) ∙ append-nil (lost_of said))
+lost_grows said (ruled of r) fresh = after_others (lost_of said) r.closed of (not_lost of said fresh) ∙ sym (lost_of-append said (ruled of r ∷ []))
+lost_grows said (chained of hops) fresh = after_others (lost_of said) (has_lost hops) of (not_lost of said fresh) ∙ sym (lost_of-append said (chained of hops ∷ []))
 
 -- one more entry has its lines after those of the others
 line_count-push : (xs : List Entry) (e : Entry) → line_count (xs ++ e ∷ []) ≡ line_count xs + lines_of e
@@ -58,7 +101,7 @@ line_count-push (x ∷ xs) e = let more = line_count-push xs e in omega (arith, 
 
 -- nothing is noted of nothing
 no_notes : (keeps : Bool) (links : LinkRules) (notes : List Noted) → notes ≡ [] → HasNotes keeps links notes []
-no_notes true links notes e = record { answers = ap (λ l. answers_of (map (note_entry links) l)) e; rules = ap (λ l. rules_of (map (note_entry links) l)) e }
+no_notes true links notes e = record { answers = ap (λ l. answers_of (map (note_entry links) l)) e; rules = ap (λ l. rules_of (map (note_entry links) l)) e; each = ap (λ l. map stating (map (note_entry links) l)) e }
 no_notes false links notes e = e
 
 -- a note more says one entry more
@@ -72,12 +115,14 @@ notes_grow true links old new above e was (note, pushed, says) =
           ∙ ap (λ l. answers_of above ++ l) says.answers ∙ sym (answers_of-append above (e ∷ []));
       rules = ap rules_of more ∙ rules_of-append (map f old) (map f (note ∷ [])) ∙ ap (λ l. l ++ rules_of (map f (note ∷ []))) was.rules
           ∙ ap (λ l. rules_of above ++ l) says.rules ∙ sym (rules_of-append above (e ∷ []));
+      each = ap (map stating) more ∙ map-append stating (map f old) (map f (note ∷ [])) ∙ ap (λ l. l ++ map stating (map f (note ∷ []))) was.each
+          ∙ ap (λ l. map stating above ++ l) says.each ∙ sym (map-append stating above (e ∷ []));
     }
 
 -- nothing is read yet after the first line
 pub starts : (links : LinkRules) (bytes : List ℕ) (reading : RecordReading) (rest : List ℕ) → bytes ≡ version_line reading.version ++ rest
-    → reading.answers.entries ≡ [] → reading.rules.entries ≡ [] → reading.links ≡ links → reading.notes.items ≡ [] → IsReadTo links bytes reading 1 rest
-starts links bytes reading rest is answers rules same none_noted =
+    → reading.answers.entries ≡ [] → reading.rules.entries ≡ [] → reading.lost.keys ≡ [] → reading.links ≡ links → reading.notes.items ≡ [] → IsReadTo links bytes reading 1 rest
+starts links bytes reading rest is answers rules lost same none_noted =
     let some = long_line reading.version in
     let long = length-append (version_line reading.version) rest in
     let all = ap length is in
@@ -88,6 +133,7 @@ starts links bytes reading rest is answers rules same none_noted =
       front = none;
       answers = answers;
       rules = rules;
+      lost = lost;
       robots_is = same;
       noted = no_notes reading.keeps_notes links reading.notes.items none_noted;
       count = refl;
@@ -131,6 +177,7 @@ goes_on links bytes old new number lines rest after so_far r less =
       front = subst (λ v. IsFront v links so_far.text (so_far.above ++ r.entry ∷ []) after) (sym r.keeps.version) (next so_far.above rest r.entry after so_far.front e fresh);
       answers = r.keeps.answers ∙ ap (λ l. l ++ answers_of (r.entry ∷ [])) so_far.answers ∙ sym (answers_of-append so_far.above (r.entry ∷ []));
       rules = r.keeps.rules ∙ ap (λ l. l ++ rules_of (r.entry ∷ [])) so_far.rules ∙ sym (rules_of-append so_far.above (r.entry ∷ []));
+      lost = r.keeps.lost ∙ ap (λ l. lost_with l r.entry) so_far.lost ∙ lost_grows so_far.above r.entry fresh;
       robots_is = r.keeps.links ∙ so_far.robots_is;
       noted = subst (λ b. HasNotes b links new.notes.items (so_far.above ++ r.entry ∷ [])) (sym r.keeps.keeps_notes)
           (notes_grow old.keeps_notes links old.notes.items new.notes.items so_far.above r.entry so_far.noted (subst (λ b. AddsNote old.keeps_notes b old.notes.items r.entry new.notes.items) so_far.robots_is r.keeps.noted));

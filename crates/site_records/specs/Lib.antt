@@ -6,5 +6,6 @@ pub mod Resumption
 pub mod WrittenEntries
 pub mod WrittenRecords
 pub mod Fronts
+pub mod Received
 pub mod RecordNotes
 pub mod inner

@@ -1,10 +1,11 @@
 //! The chains that notes have for what version 1 says of an origin's robots file: one hop each, with the same rules.
-ghost use Rattle.std.specs.Prelude.{◌≡◌, ◌≤◌, ◌||◌, ◌==◌, ◌++◌, [], false, length, None, IfOk, if◌then◌else◌, take};
+ghost use Rattle.std.specs.Prelude.{◌≡◌, ◌≤◌, ◌||◌, ◌==◌, ◌++◌, ◌∷◌, [], false, length, None, IfOk, if◌then◌else◌, not, take};
 ghost use Rattle.robots_rules.specs.Groups.{rules_in};
 ghost use Rattle.response_reader.specs.Response.{CanBeGiven};
 ghost use Rattle.answer_notes.specs.RobotsAnswers.{none_allowed, all_allowed};
 ghost use Rattle.answer_notes.specs.HopChains.{rules_of_hops, robots_file};
 ghost use Rattle.answer_notes.specs.Tellings.{target_told, rules_told};
+ghost use Rattle.site_records.specs.Received.{has_lost};
 
 use address::Origin;
 use answer_notes::{Given, Hops, Told};
@@ -21,6 +22,7 @@ fn chain_of(alloc: Global, of: &Origin, told: Told) -> Result<Hops, AllocError>
     requires { target_told (robots_file of.now) told ≡ None }
     ensures of { IfOk result (λ hops. hops.of ≡ of.now) }
     ensures rules { IfOk result (λ hops. rules_of_hops hops.hops ≡ rules_told told) }
+    ensures hops { IfOk result (λ hops. hops.hops ≡ (robots_file of.now, told) ∷ []) }
 {
     let mut hops = Vec::new(alloc);
     hops.push((of.robots_file()?, told))?;
@@ -31,6 +33,7 @@ fn chain_of(alloc: Global, of: &Origin, told: Told) -> Result<Hops, AllocError>
 pub(crate) fn file_chain(alloc: Global, of: &Origin, file: &[u8]) -> Result<Hops, AllocError>
     ensures of { IfOk result (λ hops. hops.of ≡ of.now) }
     ensures rules { IfOk result (λ hops. rules_of_hops hops.hops ≡ rules_in file.now) }
+    ensures lost { IfOk result (λ hops. has_lost hops.hops ≡ false) }
 {
     let kept = KEPT_FILE.min(file.len());
     let body = Vec::from_slice(alloc, &file[..kept])?;
@@ -52,6 +55,7 @@ pub(crate) fn file_chain(alloc: Global, of: &Origin, file: &[u8]) -> Result<Hops
 pub(crate) fn bare_chain(alloc: Global, of: &Origin, allowed: bool) -> Result<Hops, AllocError>
     ensures of { IfOk result (λ hops. hops.of ≡ of.now) }
     ensures rules { IfOk result (λ hops. rules_of_hops hops.hops ≡ (if allowed then all_allowed else none_allowed)) }
+    ensures lost { IfOk result (λ hops. has_lost hops.hops ≡ not allowed) }
 {
     if !allowed {
         return chain_of(alloc, of, Told::Fault(FaultKind::Device));

@@ -25,6 +25,6 @@ pub use answer_notes::Recording;
 pub use front::{RecordFront, read_front};
 pub use note_entry::push_note;
 pub use record_fault::RecordFault;
-pub use recorded_site::RecordedSite;
+pub use recorded_site::{RecordParts, RecordedSite};
 pub use resumed::Resumed;
 pub use written_record::write_record;

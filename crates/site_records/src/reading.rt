@@ -1,5 +1,6 @@
 //! A record in mid-read: the answers and the rule sets that the entries so far state.
-ghost use Rattle.std.specs.Prelude.{◌≡◌, ◌≤◌, ◌+◌, ◌++◌, ◌∷◌, [], MatchResult, None, OnOk, if◌then◌else◌, length};
+ghost use Rattle.std.specs.Prelude.{◌≡◌, ◌≤◌, ◌+◌, ◌++◌, ◌∷◌, [], MatchResult, None, OnOk, if◌then◌else◌, length, not};
+ghost use Rattle.std.specs.List.{filter};
 ghost use Rattle.std.specs.Map.{lookup};
 ghost use Rattle.std.specs.Str.{bytes_eq};
 ghost use Rattle.answer_notes.specs.declared.noted.Noted.TheVariants.{Chain, Page};
@@ -7,7 +8,10 @@ ghost use Rattle.site_records.specs.EntryLines.{page, fault, file, free, closed,
 ghost use Rattle.site_records.specs.Records.{answers_of};
 ghost use Rattle.site_records.specs.WrittenEntries.{note_entry};
 ghost use Rattle.site_records.specs.inner.Said.{said};
-ghost use Rattle.site_records.specs.inner.Readings.{TakesEntry, IsCounted, NamesUnstated, NamesUnruled, KeepsNote, Reads, IsBad, lines_to};
+ghost use Rattle.site_records.specs.inner.Readings.{TakesEntry, IsCounted, NamesUnstated, NamesUnruled, KeepsNote, Reads, IsBad, is_among, lines_to, with_lost};
+ghost use Rattle.site_records.specs.inner.RecordNotes.{is_failure};
+ghost use Rattle.site_records.specs.Received.{has_lost, is_lost};
+ghost use Rattle.fetcher.specs.Outcomes.{is_fault};
 
 use crate::entry_fault::EntryFault;
 use crate::entry_line::EntryLine;
@@ -21,11 +25,11 @@ use address::{Address, Origin};
 use answer_notes::{Hops, Noted, Told};
 use fetcher::{Answer, Body, FaultKind};
 use html_links::LinkRules;
-use indexmap::IndexMap;
+use indexmap::{IndexMap, IndexSet};
 use site_inputs::{InputLineFault, KeptRules, read_recorded, read_recorded_origin};
 use std::alloc::{AllocError, Global};
 
-/// What the entries read so far state.
+/// What the entries read so far state, and of which origins they say that no response was received.
 pub(crate) struct RecordReading {
     pub(crate) alloc: Global,
     pub(crate) links: LinkRules,
@@ -34,6 +38,7 @@ pub(crate) struct RecordReading {
     pub(crate) notes: Vec<Noted>,
     pub(crate) answers: IndexMap<Address, Answer<Body>>,
     pub(crate) rules: IndexMap<Origin, KeptRules>,
+    pub(crate) lost: IndexSet<Origin>,
 }
 
 // Written by hand: a user that drops one proves a call, and nothing about its fields.
@@ -47,8 +52,62 @@ impl Drop for RecordReading {
             notes: _notes,
             answers: _answers,
             rules: _rules,
+            lost: _lost,
         } = self;
     }
+}
+
+// Whether no response was received.
+fn is_lost(told: &Told) -> bool
+    ensures { result ≡ is_lost told.now }
+{
+    matches!(told, Told::Fault(_))
+}
+
+// Whether none was received for one of these hops.
+fn has_lost(hops: &Hops) -> bool
+    ensures { result ≡ has_lost hops.now.hops }
+{
+    hops.hops().iter().any(|hop| is_lost(&hop.1))
+}
+
+// Whether the note is of no response.
+fn is_failure(note: &Noted) -> bool
+    ensures { result ≡ is_failure note.now }
+{
+    match note {
+        Noted::Page(_, told) => is_lost(told),
+        Noted::Chain(hops) => has_lost(hops),
+    }
+}
+
+// Leaves the answers that are responses.
+fn leave_faults(answers: &mut IndexMap<Address, Answer<Body>>)
+    ensures { answers.new.entries ≡ filter (λ a. not (is_fault a.1.outcome)) answers.old.entries }
+{
+    answers.retain(
+        |_at: &Address, answer: &mut Answer<Body>| -> bool
+            ensures { (result ≡ not (is_fault answer.old.outcome)) × (answer.new ≡ answer.old) }
+        { !answer.outcome.is_fault() },
+    );
+}
+
+// Leaves the rules of other origins than these.
+fn leave_lost(rules: &mut IndexMap<Origin, KeptRules>, lost: &IndexSet<Origin>)
+    ensures { rules.new.entries ≡ filter (λ r. not (is_among lost.now.keys r.0)) rules.old.entries }
+{
+    rules.retain(
+        |of: &Origin, rules: &mut KeptRules| -> bool
+            ensures { (result ≡ not (is_among lost.entry.now.keys of.now)) × (rules.new ≡ rules.old) }
+        { !lost.contains(of) },
+    );
+}
+
+// Leaves the notes of responses.
+fn leave_failures(notes: &mut Vec<Noted>)
+    ensures { notes.new.items ≡ filter (λ n. not (is_failure n)) notes.old.items }
+{
+    notes.retain(|note| !is_failure(note));
 }
 
 impl RecordReading {
@@ -60,6 +119,7 @@ impl RecordReading {
         ensures notes { result.notes.items ≡ [] }
         ensures answers { result.answers.entries ≡ [] }
         ensures rules { result.rules.entries ≡ [] }
+        ensures lost { result.lost.keys ≡ [] }
     {
         RecordReading {
             alloc,
@@ -69,6 +129,7 @@ impl RecordReading {
             notes: Vec::new(alloc),
             answers: IndexMap::new(alloc),
             rules: IndexMap::new(alloc),
+            lost: IndexSet::new(alloc),
         }
     }
 
@@ -127,6 +188,17 @@ impl RecordReading {
         self.note(Noted::Page(at, told))
     }
 
+    // Keeps the origin of a chain with the others of which no response was received, if it is one. Fails only if memory runs out.
+    fn lose(&mut self, hops: &Hops) -> Result<(), AllocError>
+        ensures kept { self.new ≡ record self.old { lost = self.new.lost } }
+        ensures lost { OnOk result (self.new.lost.keys ≡ with_lost self.old.lost.keys (has_lost hops.now.hops) hops.now.of) }
+    {
+        if has_lost(hops) {
+            self.lost.insert(hops.of().try_clone()?)?;
+        }
+        Ok(())
+    }
+
     // Keeps the rules at the end of the chain of an origin without any, and a note of it. Fails only if memory runs out.
     fn keep_chain(&mut self, origin: Origin, hops: Hops) -> Result<(), AllocError>
         requires vacant { lookup (bytes_eq origin) self.old.rules.entries ≡ None }
@@ -134,6 +206,7 @@ impl RecordReading {
         ensures { OnOk result (KeepsNote self.old (Chain hops) self.new) }
     {
         let rules = hops.rules(self.alloc)?;
+        self.lose(&hops)?;
         self.rules
             .insert(origin, KeptRules::new(self.alloc, rules))?;
         self.note(Noted::Chain(hops))
@@ -260,6 +333,20 @@ impl RecordReading {
         self.add(line, behind)
     }
 
+    /// Leaves out what failed, unless that is taken too. Takes no memory.
+    pub(crate) fn leave(&mut self, takes_failed: bool)
+        ensures answers { self.new.answers.entries ≡ (if takes_failed then self.old.answers.entries else filter (λ a. not (is_fault a.1.outcome)) self.old.answers.entries) }
+        ensures rules { self.new.rules.entries ≡ (if takes_failed then self.old.rules.entries else filter (λ r. not (is_among self.old.lost.keys r.0)) self.old.rules.entries) }
+        ensures notes { self.new.notes.items ≡ (if takes_failed then self.old.notes.items else filter (λ n. not (is_failure n)) self.old.notes.items) }
+    {
+        if takes_failed {
+            return;
+        }
+        leave_faults(&mut self.answers);
+        leave_lost(&mut self.rules, &self.lost);
+        leave_failures(&mut self.notes);
+    }
+
     /// What the entries read so far state, alone.
     pub(crate) fn stated(self) -> Stated
         ensures answers { result.answers.entries ≡ self.answers.entries }
@@ -270,6 +357,7 @@ impl RecordReading {
             answers,
             rules,
             notes,
+            lost: _,
             alloc: _,
             links: _,
             version: _,

@@ -21,6 +21,16 @@ pub(crate) struct Stated {
     pub(crate) notes: Vec<Noted>,
 }
 
+/// Which parts of a record are read.
+#[derive(Clone, Copy)]
+pub struct RecordParts {
+    /// Whether a note of each entry is kept.
+    pub notes: bool,
+    /// Whether entries that say that no response was received are taken too: faults of addresses, and of origins whose robots
+    /// file, or the last of the redirects after it, wasn't received.
+    pub failed: bool,
+}
+
 /// A site in memory, read from a record. It gives each address one answer, and each origin one rule
 /// set. Copies share what the record states. Contracts see the answers and the rule sets that the
 /// record states, the notes that are kept of it, and what was asked.
@@ -57,6 +67,7 @@ impl RecordedSite {
     ghost use Rattle.site_inputs.specs.Tables.{rules_at};
     ghost use Rattle.site_records.specs.Entries.{Entry};
     ghost use Rattle.site_records.specs.Records.{IsRecord, answers_of, rules_of, answer_in, IsFault};
+    ghost use Rattle.site_records.specs.Received.{taken_of};
     ghost use Rattle.site_records.specs.RecordNotes.{SayJust, HasNotes};
 
     /// Reads a record. Each `page` entry states the answer of an address by its response, each
@@ -67,7 +78,11 @@ impl RecordedSite {
         ensures record { IfOk result (λ m. (said : List Entry) × IsRecord links bytes.now said × (m ≡ record { answers = answers_of said; rules = rules_of said; notes = []; asks = [] })) }
         ensures fault { IfErr result (λ f. IsFault links bytes.now f) }
     {
-        RecordedSite::read_as(alloc, bytes, links, false)
+        let parts = RecordParts {
+            notes: false,
+            failed: true,
+        };
+        RecordedSite::read_parts(alloc, bytes, links, parts)
     }
 
     /// The same, with a note of each entry in their order, so that the record can be written again with
@@ -81,24 +96,30 @@ impl RecordedSite {
             × (m ≡ record { answers = answers_of said; rules = rules_of said; notes = m.notes; asks = [] }) × SayJust links m.notes said) }
         ensures fault { IfErr result (λ f. IsFault links bytes.now f) }
     {
-        RecordedSite::read_as(alloc, bytes, links, true)
+        let parts = RecordParts {
+            notes: true,
+            failed: true,
+        };
+        RecordedSite::read_parts(alloc, bytes, links, parts)
     }
 
-    // Reads a record, with or without notes.
-    fn read_as(
+    /// Reads these parts of a record: its entries with notes of them or without, and all or those that haven't failed, whose
+    /// addresses and origins it doesn't name then. Errors are those of the whole record.
+    pub fn read_parts(
         alloc: Global,
         bytes: &[u8],
         links: LinkRules,
-        keeps_notes: bool,
+        parts: RecordParts,
     ) -> Result<RecordedSite, InputFault>
         ensures record { IfOk result (λ m. (said : List Entry) × IsRecord links bytes.now said
-            × (m ≡ record { answers = answers_of said; rules = rules_of said; notes = m.notes; asks = [] }) × HasNotes keeps_notes links m.notes said) }
+            × (m ≡ record { answers = answers_of (taken_of parts.failed said); rules = rules_of (taken_of parts.failed said); notes = m.notes; asks = [] })
+            × HasNotes parts.notes links m.notes (taken_of parts.failed said)) }
         ensures fault { IfErr result (λ f. IsFault links bytes.now f) }
     {
         let Some((version, mut rest)) = version_of(bytes) else {
             return Err(InputFault::Line(1));
         };
-        let mut reading = RecordReading::new(alloc, links, version, keeps_notes);
+        let mut reading = RecordReading::new(alloc, links, version, parts.notes);
         let mut number = 1;
         'entries: while !rest.is_empty() {
             match reading.read_entry(rest) {
@@ -112,6 +133,7 @@ impl RecordedSite {
                 }
             }
         }
+        reading.leave(parts.failed);
         Ok(RecordedSite::of(reading)?)
     }
 

@@ -1,6 +1,8 @@
 -- A record in mid-read: what is kept, and what a line more adds to it.
-use Rattle.std.specs.Prelude.{◌≡◌, ◌≢◌, ◌⊎◌, ◌++◌, ◌+◌, ⊤, ℕ, List, [], ◌∷◌, Option, Some, None, Result, Ok, Err, MatchResult, IsSome, codes}
+use Rattle.std.specs.Prelude.{◌≡◌, ◌≢◌, ◌⊎◌, ◌++◌, ◌+◌, ⊤, ℕ, List, [], ◌∷◌, Option, Some, None, Result, Ok, Err, MatchResult, IsSome, Bool, codes, if◌then◌else◌}
+use Rattle.std.specs.List.{list_any}
 use Rattle.std.specs.Map.{lookup}
+use Rattle.indexmap.specs.IndexSet.{insert_key}
 use Rattle.std.specs.Str.{bytes_eq}
 use Rattle.kept_bodies.specs.Bodies.{BodyValue}
 use Rattle.address.specs.Address.{AddressText, OriginText, origin_of, path_query_of}
@@ -18,15 +20,38 @@ use Rattle.site_records.specs.declared.entry_fault.EntryFault.TheVariants.{Own, 
 use Rattle.site_records.specs.declared.taken.Taken.{Taken}
 use Rattle.site_records.specs.declared.reading.RecordReading.{RecordReading}
 use Rattle.site_records.specs.EntryLines.{Statement, text_of, HopStatement, hop_text, chain, IsHopCount}
-use Rattle.site_records.specs.Entries.{Entry, lines_of, States, IsAtRoot, IsRepeated, IsEntry, IsNew, IsMisplaced, IsBadLine, IsBadAddress, IsFormed, HasHopBytes, TellsHop, IsBadHopLine, IsBadHopAddress, IsBadRow, IsBadBehind, LeadsOn}
+use Rattle.site_records.specs.Entries.{Entry, answered, ruled, chained, lines_of, States, IsAtRoot, IsRepeated, IsEntry, IsNew, IsMisplaced, IsBadLine, IsBadAddress, IsFormed, HasHopBytes, TellsHop, IsBadHopLine, IsBadHopAddress, IsBadRow, IsBadBehind, LeadsOn}
+use Rattle.site_records.specs.Received.{has_lost}
 use Rattle.site_records.specs.Records.{answers_of, rules_of}
 use Rattle.site_records.specs.WrittenEntries.{note_entry}
 use Rattle.site_records.specs.inner.RecordNotes.{AddsNote}
+
+-- the origins of which entries say that no response was received
+abbrev pub lost_of : List Entry → List OriginText
+lost_of [] = []
+lost_of (answered at a ∷ more) = lost_of more
+lost_of (ruled of r ∷ more) = (if r.closed then of ∷ [] else []) ++ lost_of more
+lost_of (chained of hops ∷ more) = (if has_lost hops then of ∷ [] else []) ++ lost_of more
+
+-- the origin is one of these
+abbrev pub is_among : List OriginText → OriginText → Bool
+is_among lost of = list_any (bytes_eq of) lost
+
+-- these origins, and after them this one if no response was received of it and it isn't one of them
+abbrev pub with_lost : List OriginText → Bool → OriginText → List OriginText
+with_lost lost failed of = if failed then insert_key bytes_eq lost of else lost
+
+-- these origins, and that of the entry if it says so of one
+abbrev pub lost_with : List OriginText → Entry → List OriginText
+lost_with lost (answered at a) = lost
+lost_with lost (ruled of r) = with_lost lost r.closed of
+lost_with lost (chained of hops) = with_lost lost (has_lost hops) of
 
 -- the entry is kept after the others
 pub record Keeps (old : RecordReading) (e : Entry) (new : RecordReading) : Type 0 where
   pub answers : new.answers.entries ≡ old.answers.entries ++ answers_of (e ∷ [])
   pub rules : new.rules.entries ≡ old.rules.entries ++ rules_of (e ∷ [])
+  pub lost : new.lost.keys ≡ lost_with old.lost.keys e
   pub links : new.links ≡ old.links
   pub version : new.version ≡ old.version
   pub keeps_notes : new.keeps_notes ≡ old.keeps_notes

@@ -1,7 +1,9 @@
 -- What proofs alone need beside `RecordNotes`.
 use Rattle.std.specs.Prelude.{◌≡◌, Bool, true, false, List, [], ◌∷◌, ◌++◌}
 use Rattle.answer_notes.specs.declared.noted.Noted.{Noted}
+use Rattle.answer_notes.specs.declared.noted.Noted.TheVariants.{Page, Chain}
 use Rattle.site_records.specs.Entries.{Entry}
+use Rattle.site_records.specs.Received.{is_lost, has_lost}
 use Rattle.site_records.specs.RecordNotes.{SayJust}
 use Rattle.html_links.specs.declared.rules.LinkRules.{LinkRules}
 
@@ -9,3 +11,8 @@ use Rattle.html_links.specs.declared.rules.LinkRules.{LinkRules}
 abbrev pub AddsNote : Bool → LinkRules → List Noted → Entry → List Noted → Type 0
 AddsNote true links old e new = (note : Noted) × (new ≡ old ++ note ∷ []) × SayJust links (note ∷ []) (e ∷ [])
 AddsNote false links old e new = new ≡ old
+
+-- the note is of no response
+abbrev pub is_failure : Noted → Bool
+is_failure (Page at told) = is_lost told
+is_failure (Chain c) = has_lost c.hops

@@ -17,7 +17,7 @@ entries-init c =
     record {
       read = starts c.args.links c.args.bytes.now c.new-reading.result c.in-Some.rest.now
           (subst (λ v. c.args.bytes.now ≡ version_line v ++ c.in-Some.rest.now) (sym c.new-reading.ensures.version) is)
-          c.new-reading.ensures.answers c.new-reading.ensures.rules c.new-reading.ensures.links c.new-reading.ensures.notes;
+          c.new-reading.ensures.answers c.new-reading.ensures.rules c.new-reading.ensures.lost c.new-reading.ensures.links c.new-reading.ensures.notes;
       keeps = c.new-reading.ensures.keeps_notes;
     }
 

@@ -1,9 +1,11 @@
 -- Everything is allowed there, or nothing.
-use Rattle.std.proofs.Common.{refl}
+use Rattle.std.proofs.Common.{◌∙◌, ap, sym, refl}
+use Rattle.robots_rules.specs.Access.{RuleSetValue}
 use Rattle.std.proofs.lemmas.Result.{err_from_is_err_and}
 use Rattle.site_inputs.specs.declared.input_fault.InputLineFault.TheVariants.{Memory}
 use Rattle.answer_notes.specs.HopChains.{rules_of_hops}
 use Rattle.site_records.proofs.EntryLaws.{refused_bare, bare_states}
+use Rattle.site_records.proofs.FirstVersionLaws.{bare_is_closed}
 use Rattle.site_records.proofs.NoteLaws.{keeps_rules}
 use Rattle.site_records.proofs.reading.RecordReading.add_rules.Goals as goal
 
@@ -26,5 +28,6 @@ pub returns : goal.returns
 returns c =
     let (named, root, is, _) = c.in_ok-origin.ensures in
     let hops = c.in_ok-hops.hops in
+    let same = c.in_ok-hops.ensures.lost ∙ sym (ap (λ (r : RuleSetValue). r.closed) c.in_ok-hops.ensures.rules ∙ bare_is_closed c.args.allowed) in
     bare_states c.args.self.now c.keep_chain.new.self c.args.allowed c.args.text.now c.args.behind.now _ c.in_ok-origin.origin hops.of (rules_of_hops hops.hops) named root
-    c.in_ok-hops.ensures.rules c.in_ok-hops.ensures.of is refl refl (keeps_rules c.args.self.now c.keep_chain.new.self hops c.in_ok-keep_chain.ensures)
+    c.in_ok-hops.ensures.rules c.in_ok-hops.ensures.of is refl refl (keeps_rules c.args.self.now c.keep_chain.new.self hops same c.in_ok-keep_chain.ensures)

@@ -4,8 +4,10 @@ use Rattle.std.proofs.lemmas.Result.{err_from_is_err_and}
 use Rattle.site_records.specs.RecordSites.{RecordValue}
 use Rattle.site_records.specs.RecordNotes.{HasNotes}
 use Rattle.site_records.specs.Records.{version_line}
+use Rattle.site_records.specs.Received.{taken_of}
+use Rattle.site_records.proofs.ReceivedLaws.{answers_taken, rules_taken, notes_taken}
 use Rattle.site_records.proofs.ReadLaws.{starts, goes_on, first_bad, line_within, all_read, not_empty, is_empty}
-use Rattle.site_records.proofs.recorded_site.RecordedSite.read_as.Goals as goal
+use Rattle.site_records.proofs.recorded_site.RecordedSite.read_parts.Goals as goal
 
 pub entries-init : goal.entries-init
 entries-init c =
@@ -16,7 +18,7 @@ entries-init c =
     record {
       read = starts c.args.links c.args.bytes.now c.new-reading.result c.in-Some.rest.now
           (subst (λ v. c.args.bytes.now ≡ version_line v ++ c.in-Some.rest.now) (sym c.new-reading.ensures.version) is)
-          c.new-reading.ensures.answers c.new-reading.ensures.rules c.new-reading.ensures.links c.new-reading.ensures.notes;
+          c.new-reading.ensures.answers c.new-reading.ensures.rules c.new-reading.ensures.lost c.new-reading.ensures.links c.new-reading.ensures.notes;
       keeps = c.new-reading.ensures.keeps_notes;
     }
 
@@ -52,14 +54,18 @@ returns-in_err-of-clause-fault c =
 
 pub returns-clause-record : goal.returns-clause-record
 returns-clause-record c =
-    let answers = c.entries.invariant.read.answers in
-    let rules = c.entries.invariant.read.rules in
+    let read = c.entries.invariant.read in
+    let above = read.above in
+    let failed = c.args.parts.failed in
+    let answers = answers_taken failed above c.entries.reading.answers.entries c.leave.new.self.answers.entries read.answers c.leave.ensures.answers in
+    let rules = rules_taken failed c.entries.reading.version c.args.links read.text above c.entries.rest.now c.entries.reading.lost.keys c.entries.reading.rules.entries c.leave.new.self.rules.entries
+    read.front read.lost read.rules c.leave.ensures.rules in
     let is = c.in_ok-of.ensures in
-    let above = c.entries.invariant.read.above in
     let notes = ap (λ (m : RecordValue). m.notes) is in
-    let kept = subst (λ b. HasNotes b c.args.links c.entries.reading.notes.items above) c.entries.invariant.keeps c.entries.invariant.read.noted in (
+    let all = subst (λ b. HasNotes b c.args.links c.entries.reading.notes.items above) c.entries.invariant.keeps read.noted in
+    let kept = notes_taken failed c.args.parts.notes c.args.links above c.entries.reading.notes.items c.leave.new.self.notes.items all c.leave.ensures.notes in (
       above,
       all_read _ _ _ _ _ c.entries.invariant.read (is_empty c.entries.rest.now (sym c.is_empty.ensures ∙ c.entries-test.false)),
       cc,
-      subst (λ l. HasNotes c.args.keeps_notes c.args.links l above) (sym notes) kept,
+      subst (λ l. HasNotes c.args.parts.notes c.args.links l (taken_of failed above)) (sym notes) kept,
     )
