@@ -1,6 +1,6 @@
 -- A record that is read is the one that the order resumes, and what the order says is done with it.
 use Rattle.std.proofs.Common.{◌≡◌, ℕ, Bool, true, false, List, All, Option, Some, None, length, map, sym, subst}
-use Rattle.std.specs.Prelude.{Result, Ok, Err, IfOk, IfErr, is_some}
+use Rattle.std.specs.Prelude.{Result, Ok, Err, IfOk, IfErr, is_some, not}
 use Rattle.std.specs.declared.alloc.AllocError.{AllocError}
 use Rattle.options.specs.declared.order.Order.{Order}
 use Rattle.site_inputs.specs.declared.input_fault.InputFault.{InputFault}
@@ -11,7 +11,7 @@ use Rattle.site_records.specs.Records.{IsFault}
 use Rattle.site_records.specs.Resumption.{Resuming}
 use Rattle.streams.specs.declared.input.ReadInputFault.TheVariants as reading
 use Rattle.retriever.specs.Saving.{resuming_of}
-use Rattle.retriever.specs.Systems.{Means, IsNotRead, IsNotResumed, IsRecordRead, IsResumed, LivesAgain, LivesBy, LivesPlainly, LivesSaving, LivesWith, settings_of}
+use Rattle.retriever.specs.Systems.{Means, IsNotRead, IsNotResumed, IsRecordTaken, IsResumed, LivesAgain, LivesBy, LivesPlainly, LivesSaving, LivesWith, settings_of}
 use Rattle.retriever.specs.inner.Systems.{AreResuming, is_plain}
 use Rattle.retriever.specs.declared.resume_fault.ResumeFault.{ResumeFault}
 use Rattle.retriever.specs.declared.resume_fault.ResumeFault.TheVariants.{Read, Input, Refused, Discontinued}
@@ -25,7 +25,7 @@ fault_not_read holds links bytes (input.Address n) held bad = (bytes, held, bad)
 module _ {S B F K D V : Type 0} (m : Means S B F K D V) (order : Order) where
   -- what is read of the file that the order names is resumed
   pub read_resumed : (path given : List ℕ) (r : Result RecordValue ResumeFault) → order.resume ≡ Some path → given ≡ path
-      → IfOk r (λ x. (bytes : List ℕ) × m.gives.holds m.system given bytes × IsRecordRead (is_some order.save) order.links bytes x) → IfOk r (λ x. IsResumed m order x)
+      → IfOk r (λ x. (bytes : List ℕ) × m.gives.holds m.system given bytes × IsRecordTaken (not order.retries_failed) (is_some order.save) order.links bytes x) → IfOk r (λ x. IsResumed m order x)
   read_resumed path given (Ok x) is same (bytes, held, read) = rw is (bytes, subst (λ (p : List ℕ). m.gives.holds m.system p bytes) same held, read)
   read_resumed path given (Err wrong) is same read = read
 

@@ -1,5 +1,5 @@
 -- What a live run makes of an order by what a system gives it.
-use Rattle.std.specs.Prelude.{◌≡◌, ◌⊎◌, ◌&&◌, ◌||◌, ℕ, Bool, is_some, true, false, List, All, Option, Some, None, MatchOption, codes, length, map, if◌then◌else◌}
+use Rattle.std.specs.Prelude.{◌≡◌, ◌⊎◌, ◌&&◌, ◌||◌, ℕ, Bool, is_some, true, false, List, All, Option, Some, None, MatchOption, codes, length, map, not, if◌then◌else◌}
 use Rattle.std.specs.declared.io.Write.{Ghosts as Writers}
 use Rattle.kept_bodies.specs.Bodies.{BodyValue}
 use Rattle.options.specs.declared.order.Order.{Order}
@@ -14,6 +14,7 @@ use Rattle.site_inputs.specs.declared.input_fault.InputFault.TheVariants as inpu
 use Rattle.streams.specs.declared.input.ReadInputFault.TheVariants as reading
 use Rattle.html_links.specs.declared.rules.LinkRules.{LinkRules}
 use Rattle.site_records.specs.Entries.{Entry}
+use Rattle.site_records.specs.Received.{taken_of}
 use Rattle.site_records.specs.RecordNotes.{HasNotes}
 use Rattle.site_records.specs.RecordSites.{RecordValue}
 use Rattle.site_records.specs.Records.{IsRecord, IsFault, answers_of, rules_of}
@@ -55,10 +56,15 @@ abbrev pub originals_of : Order → Originals
 originals_of order =
     if order.backs_up then Beside else (if order.converts && (order.upkeep.timestamps || order.upkeep.skips) then Hidden else Nowhere)
 
--- the bytes are a record, which says this; if it is saved again its notes say the same
+-- the bytes are a record, whose entries, all or without those that failed, say this; if it is saved again its notes say the same
+abbrev pub IsRecordTaken : Bool → Bool → LinkRules → List ℕ → RecordValue → Type 0
+IsRecordTaken takes_failed is_saving links bytes recorded =
+    (said : List Entry) × IsRecord links bytes said × (recorded.answers ≡ answers_of (taken_of takes_failed said))
+    × (recorded.rules ≡ rules_of (taken_of takes_failed said)) × HasNotes is_saving links recorded.notes (taken_of takes_failed said)
+
+-- the same of all entries
 abbrev pub IsRecordRead : Bool → LinkRules → List ℕ → RecordValue → Type 0
-IsRecordRead is_saving links bytes recorded =
-    (said : List Entry) × IsRecord links bytes said × (recorded.answers ≡ answers_of said) × (recorded.rules ≡ rules_of said) × HasNotes is_saving links recorded.notes said
+IsRecordRead is_saving links bytes recorded = IsRecordTaken true is_saving links bytes recorded
 
 -- why no record is read of bytes that a file may hold: they can't be had, or have this fault
 abbrev pub IsNotRead : (List ℕ → Type 0) → LinkRules → ResumeFault → Type 0
@@ -88,11 +94,12 @@ module _ {S B F K D V : Type 0} (m : Means S B F K D V) where
     pub left : D
     pub lives : Lives m.fetchers m.keeps order fetchers (outside (held folder) before) (outside (held left) after) status
 
-  -- this is recorded in the file that the order resumes, or in a record without entries if it resumes none
+  -- this is recorded in the file that the order resumes, without what failed if that is to be requested again, or in a record without entries
+  -- if it resumes none
   abbrev pub IsResumed : Order → RecordValue → Type 0
   IsResumed order recorded =
       MatchOption order.resume (IsRecordRead (is_some order.save) order.links (codes "wgetr-record 2\n") recorded)
-      (λ path. (bytes : List ℕ) × m.gives.holds m.system path bytes × IsRecordRead (is_some order.save) order.links bytes recorded)
+      (λ path. (bytes : List ℕ) × m.gives.holds m.system path bytes × IsRecordTaken (not order.retries_failed) (is_some order.save) order.links bytes recorded)
 
   -- the same by fetchers that ask such as note for what is recorded in the file that the order resumes
   pub record LivesAgain (order : Order) (before after : Option (List ℕ)) (status : ℕ) : Type 0 where

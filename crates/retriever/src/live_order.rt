@@ -1,5 +1,5 @@
 //! A live order: what it names is taken from the system, a record is read and written if it says so, and its site is retrieved.
-ghost use Rattle.std.specs.Prelude.{◌≡◌, ◌≢◌, ◌<◌, ◌≤◌, ◌⊎◌, ℕ, List, All, false, IfOk, IfErr, OnErr, codes, is_some, vec_len};
+ghost use Rattle.std.specs.Prelude.{◌≡◌, ◌≢◌, ◌<◌, ◌≤◌, ◌⊎◌, ℕ, List, All, false, IfOk, IfErr, OnErr, codes, is_some, not, vec_len};
 ghost use Rattle.site_records.specs.Records.{IsFault};
 ghost use Rattle.local_tree.specs.Folders.{holding};
 ghost use Rattle.retriever.specs.Found.{outside};
@@ -7,7 +7,7 @@ ghost use Rattle.retriever.specs.Keeping.{kept_as};
 ghost use Rattle.retriever.specs.Live.{Lives};
 ghost use Rattle.retriever.specs.Rejecting.{IsLogLive, IsLogOfCrew, IsLogTaken};
 ghost use Rattle.retriever.specs.Resuming.{IsUnresumed};
-ghost use Rattle.retriever.specs.Systems.{IsNotRead, IsNotResumed, IsRecordRead, IsResumed, LivesAgain, LivesBy, LivesIn, LivesPlainly, LivesSaving, LivesWith, means, originals_of, settings_of};
+ghost use Rattle.retriever.specs.Systems.{IsNotRead, IsNotResumed, IsRecordRead, IsRecordTaken, IsResumed, LivesAgain, LivesBy, LivesIn, LivesPlainly, LivesSaving, LivesWith, means, originals_of, settings_of};
 ghost use Rattle.retriever.specs.inner.Systems.{AreResuming, is_plain};
 
 use crate::input_run::{MAX_INPUT, deliver};
@@ -23,7 +23,7 @@ use live_system::{FetcherSettings, HoldFault, RejectedLog, System};
 use local_tree::{HasKind, Originals, Shelf};
 use options::Order;
 use site_inputs::InputFault;
-use site_records::{RecordedSite, Resumed};
+use site_records::{RecordParts, RecordedSite, Resumed};
 use std::alloc::{AllocError, Global};
 use std::io::Write;
 use std::mem;
@@ -246,36 +246,42 @@ fn live_saving<H: Threads + Wait + Sync, S: System, W: Write, L: RejectedLog>(
     Ok(status)
 }
 
-// Reads a record, with notes of what it states if the order saves.
-fn read_bytes(alloc: Global, bytes: &[u8], order: &Order) -> Result<RecordedSite, InputFault>
-    ensures ok { IfOk result (λ r. IsRecordRead (is_some order.now.save) order.now.links bytes.now r) }
+// Reads a record, with notes of what it states if the order saves; without what failed unless that is taken too.
+fn read_bytes(
+    alloc: Global,
+    bytes: &[u8],
+    order: &Order,
+    takes_failed: bool,
+) -> Result<RecordedSite, InputFault>
+    ensures ok { IfOk result (λ r. IsRecordTaken takes_failed (is_some order.now.save) order.now.links bytes.now r) }
     ensures err { IfErr result (IsFault order.now.links bytes.now) }
 {
-    if order.save.is_some() {
-        return RecordedSite::read_noted(alloc, bytes, order.links);
-    }
-    RecordedSite::read(alloc, bytes, order.links)
+    let parts = RecordParts {
+        notes: order.save.is_some(),
+        failed: takes_failed,
+    };
+    RecordedSite::read_parts(alloc, bytes, order.links, parts)
 }
 
-// Reads the record at a path.
+// Reads the record at a path, without what failed if the order requests that again.
 fn read_record<S: System>(
     alloc: Global,
     system: &S,
     path: &str,
     order: &Order,
 ) -> Result<RecordedSite, ResumeFault>
-    ensures ok { IfOk result (λ r. (bytes : List ℕ) × S.holds system.now path.now bytes × IsRecordRead (is_some order.now.save) order.now.links bytes r) }
+    ensures ok { IfOk result (λ r. (bytes : List ℕ) × S.holds system.now path.now bytes × IsRecordTaken (not order.now.retries_failed) (is_some order.now.save) order.now.links bytes r) }
     ensures err { IfErr result (IsNotRead (S.holds system.now path.now) order.now.links) }
 {
     let bytes = system.read_file(alloc, path, MAX_INPUT)?;
-    Ok(read_bytes(alloc, bytes.as_slice(), order)?)
+    Ok(read_bytes(alloc, bytes.as_slice(), order, !order.retries_failed)?)
 }
 
 // A record without entries.
 fn read_nothing(alloc: Global, order: &Order) -> Result<RecordedSite, AllocError>
     ensures { IfOk result (λ r. IsRecordRead (is_some order.now.save) order.now.links (codes "wgetr-record 2\n") r) }
 {
-    match read_bytes(alloc, EMPTY, order) {
+    match read_bytes(alloc, EMPTY, order, true) {
         Ok(recorded) => Ok(recorded),
         Err(_) => Err(AllocError),
     }
