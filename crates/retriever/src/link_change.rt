@@ -25,13 +25,17 @@ impl<'a> Model for LinkChange<'a> {
 }
 
 impl<'a> LinkChange<'a> {
-    /// That of the pages of this harvest, which have these names. Takes no memory.
-    pub(crate) fn of<B: Drop>(harvest: &'a Harvest<B>, names: &'a [String]) -> LinkChange<'a>
+    /// That of the pages of this harvest, which have these names. Takes 8 bytes for each page, or none if there is no memory.
+    pub(crate) fn of<B: Drop>(
+        alloc: Global,
+        harvest: &'a Harvest<B>,
+        names: &'a [String],
+    ) -> LinkChange<'a>
         requires { length names.now ≡ length harvest.now.kept }
         ensures { result ≡ kept_as_named harvest.now (map string_bytes names.now) }
     {
         LinkChange {
-            mirror: RunMirror::new(harvest.kept(), names, harvest.records()),
+            mirror: RunMirror::new(harvest.kept(), names, harvest.records()).with_hints(alloc),
         }
     }
 }

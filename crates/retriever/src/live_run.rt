@@ -154,7 +154,7 @@ fn put_changed<B: HasKind + Drop, D: Shelf<B>>(
     ensures torn { IfErr result (IsHalfPutBy true (kept_as B.kind_of B.len_of D.holds) (kept_as_named harvest.now (map string_bytes names.now)) harvest.now.bodies (holding D.files D.failed folder.old) (holding D.files D.failed folder.new)) }
     ensures quiet { OnOk result (D.failed folder.new ≡ D.failed folder.old) }
 {
-    let change = LinkChange::of(harvest, names);
+    let change = LinkChange::of(alloc, harvest, names);
     write_changed_site(alloc, folder, names, harvest, &change)
 }
 

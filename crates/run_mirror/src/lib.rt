@@ -17,6 +17,7 @@
 mod anew;
 mod kept_page;
 mod lookup;
+mod place_hints;
 mod reading;
 mod run_mirror;
 

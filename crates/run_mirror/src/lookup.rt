@@ -1,18 +1,38 @@
 //! Searches by address among what a run kept and recorded, which is in address order.
-ghost use Rattle.std.specs.Prelude.{◌≡◌, List, length, map, option_map, string_bytes};
+ghost use Rattle.std.specs.Prelude.{◌≡◌, ◌<◌, List, [], IfSome, length, map, option_map, slice_index_or, string_bytes};
 ghost use Rattle.address.specs.AddressOrder.{IsAscending};
 ghost use Rattle.run_mirror.specs.Mirrors.{name_among, outcome_among, recorded_addresses, target};
 ghost use Rattle.run_mirror.specs.Anew.{is_read};
 
+use crate::place_hints::PlaceHints;
 use address::Address;
 use fetcher::Outcome;
 
-/// The name of a page among those that are kept, each with its name in its place.
-pub(crate) fn name_of<'a>(kept: &[Address], names: &'a [String], page: &Address) -> Option<&'a str>
+// The place of a page, if there are hints and one leads there.
+fn guess(hints: &Option<PlaceHints>, kept: &[Address], page: &Address) -> Option<usize>
+    ensures place { IfSome result (λ place. place < length kept.now) }
+    ensures page { IfSome result (λ place. slice_index_or kept.now place [] ≡ page.now) }
+{
+    match hints {
+        Some(hints) => hints.place(kept, page),
+        None => None,
+    }
+}
+
+/// The name of a page among those that are kept, each with its name in its place. It is searched for if no hint leads there.
+pub(crate) fn name_of<'a>(
+    hints: &Option<PlaceHints>,
+    kept: &[Address],
+    names: &'a [String],
+    page: &Address,
+) -> Option<&'a str>
     requires count { length names.now ≡ length kept.now }
     requires ascending { IsAscending kept.now }
     ensures { option_map (λ name. name.now) result ≡ name_among kept.now (map string_bytes names.now) page.now }
 {
+    if let Some(place) = guess(hints, kept, page) {
+        return Some(names[place].as_str());
+    }
     match kept.binary_search(page) {
         Ok(place) => Some(names[place].as_str()),
         Err(_) => None,

@@ -4,18 +4,22 @@ ghost use Rattle.address.specs.AddressOrder.{IsAscending};
 ghost use Rattle.run_mirror.specs.Mirrors.{name_in, recorded_addresses, target_in};
 
 use crate::lookup::{name_of, outcome_of, target_of};
+use crate::place_hints::PlaceHints;
 use address::Address;
 use fetcher::Outcome;
 use link_changes::Mirror;
+use std::alloc::Global;
 use std::marker::Model;
 
 /// What a run kept, under which names, and where it was redirected. Each look takes a time
-/// that is logarithmic in the number of addresses, and no memory.
+/// that is logarithmic in the number of addresses, or constant with hints of names, and no memory.
 #[derive(Drop)]
 pub struct RunMirror<'a> {
     pub(crate) kept: &'a [Address],
     pub(crate) names: &'a [String],
     records: &'a [(Address, Outcome)],
+    // Of the kept pages.
+    hints: Option<PlaceHints>,
 }
 
 // Contracts see the lists.
@@ -47,7 +51,16 @@ impl<'a> RunMirror<'a> {
             kept,
             names,
             records,
+            hints: None,
         }
+    }
+
+    /// The same, with hints by which names are found without a search. They take 8 bytes for each page; without memory for them there are none.
+    pub fn with_hints(self, alloc: Global) -> RunMirror<'a>
+        ensures { result ≡ self.entry }
+    {
+        let hints = PlaceHints::of(alloc, self.kept).ok();
+        RunMirror { hints, ..self }
     }
 
     /// The outcome that the run recorded of an address. Takes no memory.
@@ -67,7 +80,7 @@ impl<'a> Mirror for RunMirror<'a> {
     ghost target_of = { λ run u. target_in run u };
 
     fn name(&self, address: &Address) -> Option<&str> {
-        name_of(self.kept, self.names, address)
+        name_of(&self.hints, self.kept, self.names, address)
     }
 
     fn target(&self, address: &Address) -> Option<&Address> {
