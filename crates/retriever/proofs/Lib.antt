@@ -12,6 +12,7 @@ pub mod PartLaws
 pub mod DeliveryLaws
 pub mod ProgramLaws
 pub mod LiveLaws
+pub mod FindingLaws
 pub mod LogLaws
 pub mod TellingLaws
 pub mod SavingLaws

@@ -312,7 +312,7 @@ found_report crew order m events lines bodies (inl (within, r, is)) = inl (withi
 found_report crew order m events lines bodies (inr (passed, r, is)) = inr (passed, subst (λ (a : Answers). IsFrontFound crew order.plan order.names a lines bodies) is r.found)
 
 -- what a live retrieval results in is what it found
-found_end : {F B : Type 0} (crew : Crew F B) (order : Order) (old new : Holding) (shown : List Event) (ending : LiveEnd) → EndsLive crew order old new shown ending → EndsFound crew order old new ending
+pub found_end : {F B : Type 0} (crew : Crew F B) (order : Order) (old new : Holding) (shown : List Event) (ending : LiveEnd) → EndsLive crew order old new shown ending → EndsFound crew order old new ending
 found_end crew order old new shown (Finished (Retrieved lines)) (events, m, bodies, r, is, whole) = (m, bodies, found_report crew order m events lines bodies r, whole)
 found_end crew order old new shown (Torn lines whole) (events, m, bodies, r, is, torn) = (m, bodies, found_report crew order m events lines bodies r, torn)
 found_end crew order old new shown (Unchanged lines) (events, m, bodies, r, is, put) = (m, bodies, found_report crew order m events lines bodies r, put)
@@ -327,7 +327,7 @@ found_end crew order old new shown (Finished (Stopped why.Quota)) never = never
 unshown : (with_trace : Bool) (shown events : List Event) → shown ≡ shown_of with_trace events → with_trace ≡ false → trace_text shown ≡ []
 unshown with_trace shown events is off = ap trace_text (is ∙ ap (λ b. shown_of b events) off)
 
-untraced_end : {F B : Type 0} (crew : Crew F B) (order : Order) (old new : Holding) (shown : List Event) (ending : LiveEnd) → EndsLive crew order old new shown ending → order.trace ≡ false
+pub untraced_end : {F B : Type 0} (crew : Crew F B) (order : Order) (old new : Holding) (shown : List Event) (ending : LiveEnd) → EndsLive crew order old new shown ending → order.trace ≡ false
     → trace_text shown ≡ []
 untraced_end crew order old new shown (Finished (Retrieved lines)) (events, m, bodies, r, is, whole) off = unshown order.trace shown events is off
 untraced_end crew order old new shown (Torn lines whole) (events, m, bodies, r, is, torn) off = unshown order.trace shown events is off

@@ -16,6 +16,7 @@ pub mod Mirrored
 pub mod Saving
 pub mod Resuming
 pub mod Systems
+pub mod Finding
 pub mod Rejecting
 pub mod Upkeep
 pub mod inner

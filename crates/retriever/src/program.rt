@@ -4,6 +4,7 @@ ghost use Rattle.std.specs.IoError.{error_kind};
 ghost use Rattle.std.specs.Vec.Iter.{into_iter_items};
 ghost use Rattle.options.specs.Order.{order_of, ordered_by};
 ghost use Rattle.retriever.specs.Advice.{said_of};
+ghost use Rattle.retriever.specs.Finding.{FindsFor};
 ghost use Rattle.retriever.specs.Order.{AreForInput, AreForLive};
 ghost use Rattle.retriever.specs.Keeping.{kept_as};
 ghost use Rattle.retriever.specs.Program.{IsExplained, IsFaultTold, IsQuietFor, LivesFor, outputs, words_behind, words_fault};
@@ -265,8 +266,12 @@ pub fn run_program<
     errors: &mut E,
     log: &mut L,
 ) -> u8
+    // What a live run found, by its words, what is recorded already and what the system's fetchers may answer.
+    ensures finds { IfOk args (λ all. AreForLive (words_behind (into_iter_items all))
+        → FindsFor (means S.System system.now S.Fetcher.Fetcher S.Recorder.Fetcher S.Recorder.noted (kept_as S.Body.kind_of S.Body.len_of S.Folder.holds) S.Folder.Folder S.Record.Write) (W.contents writer.old) (W.contents writer.new) result (words_behind (into_iter_items all))) }
     ensures runs { IfOk args (λ all. ¬ AreForLive (words_behind (into_iter_items all))
         → Runs (words_behind (into_iter_items all)) (R.remaining reader.old) (W.contents writer.old) (W.contents writer.new) result) }
+    // And which events led there.
     ensures lives { IfOk args (λ all. AreForLive (words_behind (into_iter_items all))
         → LivesFor (means S.System system.now S.Fetcher.Fetcher S.Recorder.Fetcher S.Recorder.noted (kept_as S.Body.kind_of S.Body.len_of S.Folder.holds) S.Folder.Folder S.Record.Write) (W.contents writer.old) (W.contents writer.new) result (words_behind (into_iter_items all))) }
     ensures unread { IfOk args (λ all. ¬ AreForInput (words_behind (into_iter_items all)) → reader.new ≡ reader.old) }
