@@ -272,7 +272,7 @@ added_table c old new name table free added = record {
       ]
     ]
 
--- ---- what the longest directory with an entry tells
+-- ---- what the longest directory with an entry says
 
 pub found_tells : (entry : List ℕ → Option Bool) (name rest directory : List ℕ) (is : Bool) → MarksAll entry → IsLeft (λ q. is_name (entry q) ≡ false) name rest → IsLongestDirectory rest directory → entry directory ≡ Some is
     → IsTrue is ↔ HasClaimedAbove entry name

@@ -47,7 +47,7 @@ fn is_marked(entries: &IndexMap<String, bool>, name: &str) -> bool
     entries.get(name) == Some(&false)
 }
 
-// Whether a directory of the name is claimed. The longest one that has an entry tells, as those above it are marked if it is.
+// Whether a directory of the name is claimed. The longest one that has an entry decides, as those above it are marked if it is.
 fn is_below_claimed(entries: &IndexMap<String, bool>, name: &str) -> bool
     requires { MarksAll (entry_of entries.now) }
     ensures { IsTrue result ↔ HasClaimedAbove (entry_of entries.now) name.now }
