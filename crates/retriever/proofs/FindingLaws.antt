@@ -2,18 +2,18 @@
 use Rattle.std.proofs.Common.{◌≡◌, ◌++◌, ℕ, inl, inr, List, Option, Some, None, Bool, map, refl, sym, ap, subst, append-nil}
 use Rattle.std.specs.Prelude.{Ok, is_some}
 use Rattle.options.specs.declared.order.Order.{Order}
-use Rattle.retriever.specs.Finding.{FindsBy, FindsFor, FindsFurther, FindsPlainly, IsNotBegun, SavesAt}
+use Rattle.retriever.specs.Finding.{SystemFindsByOrder, ProgramFinds, SystemFindsOnRecord, SystemFinds, IsNotBegun, SavesAt}
 use Rattle.retriever.specs.Found.{crew_of, live_status, live_text, outside}
 use Rattle.retriever.specs.Keeping.{in_memory}
 use Rattle.retriever.specs.Parts.{IsDelivered}
-use Rattle.retriever.specs.Program.{IsUndone, LivesFor}
+use Rattle.retriever.specs.Program.{IsUndone, ProgramRun}
 use Rattle.retriever.specs.Saving.{resuming_means, resuming_of}
-use Rattle.retriever.specs.Systems.{AreGiven, LivesAgain, LivesBy, LivesPlainly, LivesSaving, Means, held}
+use Rattle.retriever.specs.Systems.{AreGiven, SystemRunResumed, SystemRunByOrder, SystemRun, SystemRunSaved, Means, held}
 use Rattle.report.specs.Trace.{trace_text}
 use Rattle.retriever.proofs.LiveLaws.{finds_of_lives, found_end, untraced_end}
 
 module _ {S B F K D V : Type 0} (m : Means S B F K D V) (order : Order) (before after : Option (List ℕ)) (status : ℕ) where
-  found_plainly : LivesPlainly m order before after status → FindsPlainly m order before after status
+  found_plainly : SystemRun m order before after status → SystemFinds m order before after status
   found_plainly lives = record {
     fetchers = lives.fetchers;
     folder = lives.folder;
@@ -23,7 +23,7 @@ module _ {S B F K D V : Type 0} (m : Means S B F K D V) (order : Order) (before 
   }
 
   -- one that saves nothing
-  found_again : order.save ≡ None → LivesAgain m order before after status → FindsFurther m order before after status
+  found_again : order.save ≡ None → SystemRunResumed m order before after status → SystemFindsOnRecord m order before after status
   found_again none lives =
       let means = resuming_means m.recorders in
       let all = map (resuming_of m.recorders.log lives.recorded) lives.fetchers in
@@ -49,7 +49,7 @@ module _ {S B F K D V : Type 0} (m : Means S B F K D V) (order : Order) (before 
       }
 
   -- one that saves at this path
-  found_saving : (path : List ℕ) → order.save ≡ Some path → LivesSaving m order path before after status → FindsFurther m order before after status
+  found_saving : (path : List ℕ) → order.save ≡ Some path → SystemRunSaved m order path before after status → SystemFindsOnRecord m order before after status
   found_saving path some lives =
       let means = resuming_means m.recorders in
       let all = map (resuming_of m.recorders.log lives.recorded) lives.fetchers in
@@ -77,7 +77,7 @@ module _ {S B F K D V : Type 0} (m : Means S B F K D V) (order : Order) (before 
         ];
       }
 
-  found_by : (resume save : Option (List ℕ)) → order.resume ≡ resume → order.save ≡ save → LivesBy m (resume, save) order before after status → FindsBy m (resume, save) order before after status
+  found_by : (resume save : Option (List ℕ)) → order.resume ≡ resume → order.save ≡ save → SystemRunByOrder m (resume, save) order before after status → SystemFindsByOrder m (resume, save) order before after status
   found_by None None resumes saves lives = found_plainly lives
   found_by None (Some path) resumes saves lives = found_saving path saves lives
   found_by (Some from) None resumes saves lives = found_again saves lives
@@ -90,8 +90,8 @@ not_begun words before after status (inr (seeks, inl large)) = inr (seeks, large
 not_begun words before after status (inr (seeks, inr memory)) = inl memory
 
 -- what the words of a live run result in is what it found
-pub finds_for : {S B F K D V : Type 0} (m : Means S B F K D V) (before after : Option (List ℕ)) (status : ℕ) (words : List (List ℕ)) → LivesFor m before after status words
-    → FindsFor m before after status words
+pub finds_for : {S B F K D V : Type 0} (m : Means S B F K D V) (before after : Option (List ℕ)) (status : ℕ) (words : List (List ℕ)) → ProgramRun m before after status words
+    → ProgramFinds m before after status words
 finds_for m before after status words (inl (order, ordered, inl lives)) =
     inl (order, ordered, inl (found_by m order before after status order.resume order.save refl refl lives))
 finds_for m before after status words (inl (order, ordered, inr wrong)) = inl (order, ordered, inr wrong)

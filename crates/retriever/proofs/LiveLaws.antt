@@ -35,7 +35,7 @@ use Rattle.report.specs.Named.{names_in}
 use Rattle.report.specs.Report.{Line, report_text}
 use Rattle.report.proofs.NamedLaws.{names_of_lines, pages_of_lines}
 use Rattle.retriever.specs.Found.{Crew, crew_of, MaySay, MaySayRules, asks_of, IsFound, IsFrontFound, IsPartFound, IsReportFound, EndsFound, Finds, Outside, LiveEnd, Finished, Torn, Unchanged, IsPutAt, IsTornAt, live_text, live_status, torn_line, unchanged_line}
-use Rattle.retriever.specs.Live.{AreOfCrew, IsFrontLive, IsReportLive, IsRetrievedLive, IsStoppedLive, EndsLive, Lives}
+use Rattle.retriever.specs.Live.{AreOfCrew, IsFrontLive, IsReportLive, IsRetrievedLive, IsStoppedLive, EndsLive, LiveRun}
 use Rattle.retriever.specs.Mirrored.{IsPutAs, IsHalfPutAs, kept_as_named, kept_by, links_become}
 use Rattle.retriever.specs.Parts.{shown_of}
 use Rattle.run_mirror.specs.Mirrors.{Kept}
@@ -293,7 +293,7 @@ module _ {F B : Type 0} (crew : Crew F B) where
 
 -- an end whose text is delivered is a live retrieval
 pub lives_from : {F B E : Type 0} (m : Meaning F B) (keeps : Keeping B) (order : Order) (olds news : List F) (before after : Outside) (told : Result ℕ E) (status : ℕ) → AreLater m olds news → status ≡ status_told told
-    → EndsTold (crew_of m keeps olds news) order before.folder after.folder (IsToldAs before.written after.written told) → Lives m keeps order olds before after status
+    → EndsTold (crew_of m keeps olds news) order before.folder after.folder (IsToldAs before.written after.written told) → LiveRun m keeps order olds before after status
 lives_from m keeps order olds news before after told status later same (shown, ending, ends, written) = record {
   left = news;
   later = later;
@@ -339,7 +339,7 @@ untraced_end crew order old new shown (Finished (Stopped why.Mismatch)) (many, n
 untraced_end crew order old new shown (Finished (Stopped why.Quota)) never off = absurd never
 
 -- a live retrieval found what it results in
-pub finds_of_lives : {F B : Type 0} (m : Meaning F B) (keeps : Keeping B) (order : Order) (fetchers : List F) (before after : Outside) (status : ℕ) → Lives m keeps order fetchers before after status
+pub finds_of_lives : {F B : Type 0} (m : Meaning F B) (keeps : Keeping B) (order : Order) (fetchers : List F) (before after : Outside) (status : ℕ) → LiveRun m keeps order fetchers before after status
     → Finds m keeps order fetchers before after status
 finds_of_lives m keeps order fetchers before after status lives =
     let crew = crew_of m keeps fetchers lives.left in

@@ -87,10 +87,10 @@ refusal_of words wrong before after status (inr told) = inr told.0
 
 -- ---- the program
 
-module _ {R E : Type 0} (Lives : List (List ℕ) → Type 0) (before after : Streams R E) (status : ℕ) where
+module _ {R E : Type 0} (LiveRun : List (List ℕ) → Type 0) (before after : Streams R E) (status : ℕ) where
   -- memory that ran out before the words are read
-  pub starts_memory : after.reader ≡ before.reader → after.outputs.errors ≡ before.outputs.errors → (words : List (List ℕ)) → Lives words
-      → IsFaultDelivered before.outputs.written after.outputs.written fault.Memory status → Starts Lives before after status words
+  pub starts_memory : after.reader ≡ before.reader → after.outputs.errors ≡ before.outputs.errors → (words : List (List ℕ)) → LiveRun words
+      → IsFaultDelivered before.outputs.written after.outputs.written fault.Memory status → Starts LiveRun before after status words
   starts_memory unread quiet words lives refusal = record {
     runs = λ not. runs_memory words before.remaining before.outputs.written after.outputs.written status refusal;
     lives = λ live. lives;
@@ -100,13 +100,13 @@ module _ {R E : Type 0} (Lives : List (List ℕ) → Type 0) (before after : Str
   }
 
   -- the same of equal words
-  pub starts_as : (given words : List (List ℕ)) → given ≡ words → Starts Lives before after status given → Starts Lives before after status words
-  starts_as given words same starts = subst (λ (w : List (List ℕ)). Starts Lives before after status w) same starts
+  pub starts_as : (given words : List (List ℕ)) → given ≡ words → Starts LiveRun before after status given → Starts LiveRun before after status words
+  starts_as given words same starts = subst (λ (w : List (List ℕ)). Starts LiveRun before after status w) same starts
 
   -- words that order something: of a site on the network, or of one that the input describes
   pub starts_order : after.outputs.errors ≡ before.outputs.errors → (words : List (List ℕ)) (order : Order) → order_of words ≡ Ok (ordered_by order)
-      → (order.source ≢ source.Live → Runs words before.remaining before.outputs.written after.outputs.written status) → (order.source ≡ source.Live → Lives words)
-      → (order.source ≡ source.Live → after.reader ≡ before.reader) → Starts Lives before after status words
+      → (order.source ≢ source.Live → Runs words before.remaining before.outputs.written after.outputs.written status) → (order.source ≡ source.Live → LiveRun words)
+      → (order.source ≡ source.Live → after.reader ≡ before.reader) → Starts LiveRun before after status words
   starts_order quiet words order says runs lives unread = record {
     runs = λ not. runs (λ is. not (ordered_by order, says, is));
     lives = λ live.
@@ -120,8 +120,8 @@ module _ {R E : Type 0} (Lives : List (List ℕ) → Type 0) (before after : Str
 
   -- words that order nothing, or for which there is no memory
   pub starts_wrong : after.reader ≡ before.reader → (words : List (List ℕ)) (wrong : LineFault) → IsRefused words (fault.Line wrong)
-      → (IsUndone words before.outputs.written after.outputs.written status → Lives words) → IsExplained words (fault.Line wrong) before.outputs after.outputs status
-      → (said_of words (fault.Line wrong) ≡ [] → after.outputs.errors ≡ before.outputs.errors) → Starts Lives before after status words
+      → (IsUndone words before.outputs.written after.outputs.written status → LiveRun words) → IsExplained words (fault.Line wrong) before.outputs after.outputs status
+      → (said_of words (fault.Line wrong) ≡ [] → after.outputs.errors ≡ before.outputs.errors) → Starts LiveRun before after status words
   starts_wrong unread words wrong refused lives told quiet =
       let refusal = refusal_of words (fault.Line wrong) before.outputs after.outputs status told in record {
         runs = λ not.

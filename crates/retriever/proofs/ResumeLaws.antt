@@ -11,7 +11,7 @@ use Rattle.site_records.specs.Records.{IsFault}
 use Rattle.site_records.specs.Resumption.{Resuming}
 use Rattle.streams.specs.declared.input.ReadInputFault.TheVariants as reading
 use Rattle.retriever.specs.Saving.{resuming_of}
-use Rattle.retriever.specs.Systems.{Means, IsNotRead, IsNotResumed, IsRecordTaken, IsResumed, LivesAgain, LivesBy, LivesPlainly, LivesSaving, LivesWith, settings_of}
+use Rattle.retriever.specs.Systems.{Means, IsNotRead, IsNotResumed, IsRecordTaken, IsResumed, SystemRunResumed, SystemRunByOrder, SystemRun, SystemRunSaved, SystemRunOnRecord, settings_of}
 use Rattle.retriever.specs.inner.Systems.{AreResuming, is_plain}
 use Rattle.retriever.specs.declared.resume_fault.ResumeFault.{ResumeFault}
 use Rattle.retriever.specs.declared.resume_fault.ResumeFault.TheVariants.{Read, Input, Refused, Discontinued}
@@ -53,24 +53,24 @@ module _ {S B F K D V : Type 0} (m : Means S B F K D V) (order : Order) where
 
   module _ (before after : Option (List ℕ)) where
     -- a retrieval that is saved at the order's path
-    pub saves : (path given : List ℕ) (r : Result ℕ AllocError) → order.save ≡ Some path → given ≡ path → IfOk r (LivesSaving m order given before after)
-        → IfOk r (LivesWith m order.save order before after)
+    pub saves : (path given : List ℕ) (r : Result ℕ AllocError) → order.save ≡ Some path → given ≡ path → IfOk r (SystemRunSaved m order given before after)
+        → IfOk r (SystemRunOnRecord m order.save order before after)
     saves path given r is same lives =
-        subst (λ (save : Option (List ℕ)). IfOk r (LivesWith m save order before after)) (sym is)
-        (subst (λ (p : List ℕ). IfOk r (LivesSaving m order p before after)) same lives)
+        subst (λ (save : Option (List ℕ)). IfOk r (SystemRunOnRecord m save order before after)) (sym is)
+        (subst (λ (p : List ℕ). IfOk r (SystemRunSaved m order p before after)) same lives)
 
     -- one that isn't saved
-    pub saves_not : (r : Result ℕ AllocError) → order.save ≡ None → IfOk r (LivesAgain m order before after) → IfOk r (LivesWith m order.save order before after)
-    saves_not r is lives = subst (λ (save : Option (List ℕ)). IfOk r (LivesWith m save order before after)) (sym is) lives
+    pub saves_not : (r : Result ℕ AllocError) → order.save ≡ None → IfOk r (SystemRunResumed m order before after) → IfOk r (SystemRunOnRecord m order.save order before after)
+    saves_not r is lives = subst (λ (save : Option (List ℕ)). IfOk r (SystemRunOnRecord m save order before after)) (sym is) lives
 
     -- one of an order that neither resumes nor saves
-    pub plainly : (resume save : Option (List ℕ)) (status : ℕ) → is_plain resume save ≡ true → LivesPlainly m order before after status → LivesBy m (resume, save) order before after status
+    pub plainly : (resume save : Option (List ℕ)) (status : ℕ) → is_plain resume save ≡ true → SystemRun m order before after status → SystemRunByOrder m (resume, save) order before after status
     plainly None None status is lives = lives
     plainly None (Some path) status is lives = cc
     plainly (Some from) save status is lives = cc
 
     -- one of an order that does either
-    pub not_plainly : (resume save : Option (List ℕ)) (status : ℕ) → is_plain resume save ≡ false → LivesWith m save order before after status → LivesBy m (resume, save) order before after status
+    pub not_plainly : (resume save : Option (List ℕ)) (status : ℕ) → is_plain resume save ≡ false → SystemRunOnRecord m save order before after status → SystemRunByOrder m (resume, save) order before after status
     not_plainly None None status is lives = cc
     not_plainly None (Some path) status is lives = lives
     not_plainly (Some from) save status is lives = lives

@@ -38,7 +38,7 @@ IsNotBegun words before after status =
 
 module _ {S B F K D V : Type 0} (m : Means S B F K D V) where
   -- what is found by fetchers that the system makes for the order, into the folder that it opens for it
-  pub record FindsPlainly (order : Order) (before after : Option (List ℕ)) (status : ℕ) : Type 0 where
+  pub record SystemFinds (order : Order) (before after : Option (List ℕ)) (status : ℕ) : Type 0 where
     pub fetchers : List F
     pub folder : D
     pub given : AreGiven m (m.gives.makes m.system) order false fetchers folder
@@ -54,7 +54,7 @@ module _ {S B F K D V : Type 0} (m : Means S B F K D V) where
 
   -- The same if the order resumes a record or saves one: by fetchers that answer from the record what it states, and request the rest by others,
   -- which the system makes for the order. If there is no memory for the first, nothing is requested, put or saved.
-  pub record FindsFurther (order : Order) (before after : Option (List ℕ)) (status : ℕ) : Type 0 where
+  pub record SystemFindsOnRecord (order : Order) (before after : Option (List ℕ)) (status : ℕ) : Type 0 where
     pub recorded : RecordValue
     pub resumed : IsResumed m order recorded
     pub fetchers : List K
@@ -65,14 +65,14 @@ module _ {S B F K D V : Type 0} (m : Means S B F K D V) where
         ⊎ (IsDelivered before after (codes "stopped memory\n") 1 status × (held m left ≡ held m folder))
 
   -- one of the two, by what the order resumes and where it saves
-  abbrev pub FindsBy : Option (List ℕ) × Option (List ℕ) → Order → Option (List ℕ) → Option (List ℕ) → ℕ → Type 0
-  FindsBy (None, None) order before after status = FindsPlainly order before after status
-  FindsBy (resume, save) order before after status = FindsFurther order before after status
+  abbrev pub SystemFindsByOrder : Option (List ℕ) × Option (List ℕ) → Order → Option (List ℕ) → Option (List ℕ) → ℕ → Type 0
+  SystemFindsByOrder (None, None) order before after status = SystemFinds order before after status
+  SystemFindsByOrder (resume, save) order before after status = SystemFindsOnRecord order before after status
 
   -- What the live retrieval that the words order finds. Or a line says why the record that it resumes can't be, that nothing may be saved where it
   -- says, that what is in its folder can't be gone on with, or that the words can't be carried out.
-  abbrev pub FindsFor : Option (List ℕ) → Option (List ℕ) → ℕ → List (List ℕ) → Type 0
-  FindsFor before after status words =
+  abbrev pub ProgramFinds : Option (List ℕ) → Option (List ℕ) → ℕ → List (List ℕ) → Type 0
+  ProgramFinds before after status words =
       ((order : Order) × IsLiveOrder words order
-      × (FindsBy (order.resume, order.save) order before after status ⊎ ((wrong : ResumeFault) × IsNotResumed m order wrong × IsUnresumed before after wrong status)))
+      × (SystemFindsByOrder (order.resume, order.save) order before after status ⊎ ((wrong : ResumeFault) × IsNotResumed m order wrong × IsUnresumed before after wrong status)))
       ⊎ IsNotBegun words before after status

@@ -97,7 +97,7 @@ EndsLive crew order old new shown (Finished (Stopped cause.Quota)) = ⊥
 -- A live retrieval with these fetchers, one for each worker: it has an end, by what the fetchers were asked and may
 -- have answered until then. Either the writer gained that end's text, after what is shown of the trace, and the status is
 -- the end's, or the writer failed after a front of it, and the status is 1.
-pub record Lives {F B : Type 0} (m : Meaning F B) (keeps : Keeping B) (order : Order) (fetchers : List F) (before after : Outside) (status : ℕ) : Type 0 where
+pub record LiveRun {F B : Type 0} (m : Meaning F B) (keeps : Keeping B) (order : Order) (fetchers : List F) (before after : Outside) (status : ℕ) : Type 0 where
   pub left : List F
   pub later : AreLater m fetchers left
   pub shown : List Event

@@ -9,7 +9,7 @@ use Rattle.options.specs.declared.order.Order.{Order}
 use Rattle.retriever.specs.Order.{IsLiveOrder, IsRefused}
 use Rattle.retriever.specs.Parts.{IsDelivered, IsFaultDelivered}
 use Rattle.retriever.specs.Run.{fault_text, fault_status}
-use Rattle.retriever.specs.Systems.{Means, LivesIn}
+use Rattle.retriever.specs.Systems.{Means, OrderedRun}
 use Rattle.streams.specs.Streams.{AppendsFront}
 use Rattle.retriever.specs.declared.fault.Fault.{Fault}
 use Rattle.retriever.specs.declared.fault.Fault.TheVariants as fault
@@ -57,6 +57,6 @@ IsQuietFor words before after =
     (after.errors ≡ before.errors) ⊎ ((seeks_in words ≡ true) × AppendsFront before.told after.told (said_of words (fault.Line line.LargeExpression)))
 
 -- the live retrieval that the words order, or the line for what hindered it before
-abbrev pub LivesFor : {S B F K D V : Type 0} → Means S B F K D V → Option (List ℕ) → Option (List ℕ) → ℕ → List (List ℕ) → Type 0
-LivesFor m before after status words =
-    ((order : Order) × IsLiveOrder words order × LivesIn m order before after status) ⊎ IsUndone words before after status
+abbrev pub ProgramRun : {S B F K D V : Type 0} → Means S B F K D V → Option (List ℕ) → Option (List ℕ) → ℕ → List (List ℕ) → Type 0
+ProgramRun m before after status words =
+    ((order : Order) × IsLiveOrder words order × OrderedRun m order before after status) ⊎ IsUndone words before after status

@@ -63,9 +63,9 @@ pub record Notes (F : Type 0) : Type 1 where
 abbrev pub notes_of : {F : Type 0} → Meaning F BodyValue → (F → List Noted) → List Noted → Notes F
 notes_of m noted given = record { means = m; noted = noted; given = given }
 
--- A live retrieval, as `Lives` has it, whose record is saved at its end, whatever that is: what was given, and after it what
+-- A live retrieval, as `LiveRun` has it, whose record is saved at its end, whatever that is: what was given, and after it what
 -- each fetcher noted. What is reported of that comes after all else.
-pub record LivesSaved {F : Type 0} (notes : Notes F) (order : Order) (fetchers : List F) (before after : OutsideSaved) (status : ℕ) : Type 0 where
+pub record SavedRun {F : Type 0} (notes : Notes F) (order : Order) (fetchers : List F) (before after : OutsideSaved) (status : ℕ) : Type 0 where
   pub left : List F
   pub later : AreLater notes.means fetchers left
   pub shown : List Event
@@ -102,7 +102,7 @@ resumes m noted recorded = record { means = m; noted = noted; recorded = recorde
 
 -- The same by fetchers that ask those given for what the record doesn't state; the notes of the record are what is saved
 -- first. Or there was no memory for these fetchers: nothing was asked, put or saved.
-abbrev pub LivesResumed : {F : Type 0} → Resumes F → Order → List F → OutsideSaved → OutsideSaved → ℕ → Type 0
-LivesResumed resumed order fetchers before after status =
-    LivesSaved (notes_of (resuming_means resumed.means) (noted_within resumed.noted) resumed.recorded.notes) order (map (resuming_of resumed.means.log resumed.recorded) fetchers) before after status
+abbrev pub ResumedRun : {F : Type 0} → Resumes F → Order → List F → OutsideSaved → OutsideSaved → ℕ → Type 0
+ResumedRun resumed order fetchers before after status =
+    SavedRun (notes_of (resuming_means resumed.means) (noted_within resumed.noted) resumed.recorded.notes) order (map (resuming_of resumed.means.log resumed.recorded) fetchers) before after status
     ⊎ (IsDelivered before.written after.written (codes "stopped memory\n") 1 status × (after.folder ≡ before.folder) × (after.saved ≡ before.saved))

@@ -20,9 +20,9 @@ use Rattle.site_records.specs.RecordSites.{RecordValue}
 use Rattle.site_records.specs.Records.{IsRecord, IsFault, answers_of, rules_of}
 use Rattle.retriever.specs.Found.{outside}
 use Rattle.retriever.specs.Keeping.{Keeping, in_memory}
-use Rattle.retriever.specs.Live.{Lives}
+use Rattle.retriever.specs.Live.{LiveRun}
 use Rattle.retriever.specs.Resuming.{IsUnresumed}
-use Rattle.retriever.specs.Saving.{LivesResumed, outside_saved, resumes, resuming_means, resuming_of}
+use Rattle.retriever.specs.Saving.{ResumedRun, outside_saved, resumes, resuming_means, resuming_of}
 use Rattle.retriever.specs.declared.resume_fault.ResumeFault.{ResumeFault}
 use Rattle.retriever.specs.declared.resume_fault.ResumeFault.TheVariants.{Read, Input, Refused, Discontinued}
 use Rattle.live_system.specs.Settings.{Settings}
@@ -87,12 +87,12 @@ module _ {S B F K D V : Type 0} (m : Means S B F K D V) where
     pub opened : m.gives.opens m.system order.prefix (originals_of order) folder
 
   -- the live retrieval that is ordered, by such fetchers and into such a folder
-  pub record LivesPlainly (order : Order) (before after : Option (List ℕ)) (status : ℕ) : Type 0 where
+  pub record SystemRun (order : Order) (before after : Option (List ℕ)) (status : ℕ) : Type 0 where
     pub fetchers : List F
     pub folder : D
     pub given : AreGiven (m.gives.makes m.system) order false fetchers folder
     pub left : D
-    pub lives : Lives m.fetchers m.keeps order fetchers (outside (held folder) before) (outside (held left) after) status
+    pub lives : LiveRun m.fetchers m.keeps order fetchers (outside (held folder) before) (outside (held left) after) status
 
   -- this is recorded in the file that the order resumes, without what failed if that is to be requested again, or in a record without entries
   -- if it resumes none
@@ -102,17 +102,17 @@ module _ {S B F K D V : Type 0} (m : Means S B F K D V) where
       (λ path. (bytes : List ℕ) × m.gives.holds m.system path bytes × IsRecordTaken (not order.retries_failed) (is_some order.save) order.links bytes recorded)
 
   -- the same by fetchers that ask such as note for what is recorded in the file that the order resumes
-  pub record LivesAgain (order : Order) (before after : Option (List ℕ)) (status : ℕ) : Type 0 where
+  pub record SystemRunResumed (order : Order) (before after : Option (List ℕ)) (status : ℕ) : Type 0 where
     pub recorded : RecordValue
     pub resumed : IsResumed order recorded
     pub fetchers : List K
     pub folder : D
     pub given : AreGiven (m.gives.makes_recorder m.system) order false fetchers folder
     pub left : D
-    pub lives : Lives (resuming_means m.recorders) in_memory order (map (resuming_of m.recorders.log recorded) fetchers) (outside (held folder) before) (outside (held left) after) status
+    pub lives : LiveRun (resuming_means m.recorders) in_memory order (map (resuming_of m.recorders.log recorded) fetchers) (outside (held folder) before) (outside (held left) after) status
 
   -- the same, and the notes of what is recorded, and what such fetchers note, are saved at this path
-  pub record LivesSaving (order : Order) (path : List ℕ) (before after : Option (List ℕ)) (status : ℕ) : Type 0 where
+  pub record SystemRunSaved (order : Order) (path : List ℕ) (before after : Option (List ℕ)) (status : ℕ) : Type 0 where
     pub recorded : RecordValue
     pub resumed : IsResumed order recorded
     pub fetchers : List K
@@ -122,19 +122,19 @@ module _ {S B F K D V : Type 0} (m : Means S B F K D V) where
     pub record_begun : V
     pub named : m.gives.names m.system path record_begun
     pub record_left : V
-    pub lives : LivesResumed (resumes m.recorders m.noted recorded) order fetchers (outside_saved (held folder) before (m.records.contents record_begun))
+    pub lives : ResumedRun (resumes m.recorders m.noted recorded) order fetchers (outside_saved (held folder) before (m.records.contents record_begun))
         (outside_saved (held left) after (m.records.contents record_left)) status
 
   -- one of the last two, by whether and where the order saves
-  abbrev pub LivesWith : Option (List ℕ) → Order → Option (List ℕ) → Option (List ℕ) → ℕ → Type 0
-  LivesWith None order before after status = LivesAgain order before after status
-  LivesWith (Some path) order before after status = LivesSaving order path before after status
+  abbrev pub SystemRunOnRecord : Option (List ℕ) → Order → Option (List ℕ) → Option (List ℕ) → ℕ → Type 0
+  SystemRunOnRecord None order before after status = SystemRunResumed order before after status
+  SystemRunOnRecord (Some path) order before after status = SystemRunSaved order path before after status
 
   -- one of the three, by what the order resumes and where it saves
-  abbrev pub LivesBy : Option (List ℕ) × Option (List ℕ) → Order → Option (List ℕ) → Option (List ℕ) → ℕ → Type 0
-  LivesBy (None, None) order before after status = LivesPlainly order before after status
-  LivesBy (None, Some path) order before after status = LivesWith (Some path) order before after status
-  LivesBy (Some from, save) order before after status = LivesWith save order before after status
+  abbrev pub SystemRunByOrder : Option (List ℕ) × Option (List ℕ) → Order → Option (List ℕ) → Option (List ℕ) → ℕ → Type 0
+  SystemRunByOrder (None, None) order before after status = SystemRun order before after status
+  SystemRunByOrder (None, Some path) order before after status = SystemRunOnRecord (Some path) order before after status
+  SystemRunByOrder (Some from, save) order before after status = SystemRunOnRecord save order before after status
 
   -- why the file that the order resumes can't be, or none may be saved where the order says, or what is in its folder can't be gone on with
   abbrev pub IsNotResumed : Order → ResumeFault → Type 0
@@ -145,6 +145,6 @@ module _ {S B F K D V : Type 0} (m : Means S B F K D V) where
   IsNotResumed order wrong = (path : List ℕ) × (order.resume ≡ Some path) × IsNotRead (m.gives.holds m.system path) order.links wrong
 
   -- the live retrieval that is ordered, or the line that says why its record can't be resumed, or that memory ran out
-  abbrev pub LivesIn : Order → Option (List ℕ) → Option (List ℕ) → ℕ → Type 0
-  LivesIn order before after status =
-      LivesBy (order.resume, order.save) order before after status ⊎ ((wrong : ResumeFault) × IsNotResumed order wrong × IsUnresumed before after wrong status)
+  abbrev pub OrderedRun : Order → Option (List ℕ) → Option (List ℕ) → ℕ → Type 0
+  OrderedRun order before after status =
+      SystemRunByOrder (order.resume, order.save) order before after status ⊎ ((wrong : ResumeFault) × IsNotResumed order wrong × IsUnresumed before after wrong status)

@@ -4,10 +4,10 @@ ghost use Rattle.site_records.specs.Records.{IsFault};
 ghost use Rattle.local_tree.specs.Folders.{holding};
 ghost use Rattle.retriever.specs.Found.{outside};
 ghost use Rattle.retriever.specs.Keeping.{kept_as};
-ghost use Rattle.retriever.specs.Live.{Lives};
+ghost use Rattle.retriever.specs.Live.{LiveRun};
 ghost use Rattle.retriever.specs.Rejecting.{IsLogLive, IsLogOfCrew, IsLogTaken};
 ghost use Rattle.retriever.specs.Resuming.{IsUnresumed};
-ghost use Rattle.retriever.specs.Systems.{IsNotRead, IsNotResumed, IsRecordRead, IsRecordTaken, IsResumed, LivesAgain, LivesBy, LivesIn, LivesPlainly, LivesSaving, LivesWith, means, originals_of, settings_of};
+ghost use Rattle.retriever.specs.Systems.{IsNotRead, IsNotResumed, IsRecordRead, IsRecordTaken, IsResumed, SystemRunResumed, SystemRunByOrder, OrderedRun, SystemRun, SystemRunSaved, SystemRunOnRecord, means, originals_of, settings_of};
 ghost use Rattle.retriever.specs.inner.Systems.{AreResuming, is_plain};
 
 use crate::input_run::{MAX_INPUT, deliver};
@@ -134,7 +134,7 @@ where
     F::Body: HasKind + Send,
     requires some { 0 < vec_len fetchers }
     requires most { vec_len fetchers ≤ 64 }
-    ensures lives { Lives F.Fetcher (kept_as F.Body.kind_of F.Body.len_of D.holds) order.now fetchers.items (outside (holding D.files D.failed folder.old) (W.contents writer.old))
+    ensures lives { LiveRun F.Fetcher (kept_as F.Body.kind_of F.Body.len_of D.holds) order.now fetchers.items (outside (holding D.files D.failed folder.old) (W.contents writer.old))
         (outside (holding D.files D.failed folder.new) (W.contents writer.new)) result }
     ensures logged { IsLogTaken (IsLogOfCrew F.Fetcher order.now fetchers.items) (L.contents log.old) (L.contents log.new) }
 {
@@ -164,7 +164,7 @@ fn live_plainly<H: Threads + Wait + Sync, S: System, W: Write, L: RejectedLog>(
     writer: &mut W,
     log: &mut L,
 ) -> Result<u8, AllocError>
-    ensures lives { IfOk result (LivesPlainly (means S.System system.now S.Fetcher.Fetcher S.Recorder.Fetcher S.Recorder.noted (kept_as S.Body.kind_of S.Body.len_of S.Folder.holds) S.Folder.Folder S.Record.Write) order.now (W.contents writer.old) (W.contents writer.new)) }
+    ensures lives { IfOk result (SystemRun (means S.System system.now S.Fetcher.Fetcher S.Recorder.Fetcher S.Recorder.noted (kept_as S.Body.kind_of S.Body.len_of S.Folder.holds) S.Folder.Folder S.Record.Write) order.now (W.contents writer.old) (W.contents writer.new)) }
     ensures unwritten { OnErr result (writer.new ≡ writer.old) }
     ensures logged { IsLogTaken (IsLogLive (means S.System system.now S.Fetcher.Fetcher S.Recorder.Fetcher S.Recorder.noted (kept_as S.Body.kind_of S.Body.len_of S.Folder.holds) S.Folder.Folder S.Record.Write) order.now) (L.contents log.old) (L.contents log.new) }
 {
@@ -200,7 +200,7 @@ fn live_again<H: Threads + Wait + Sync, S: System, W: Write, L: RejectedLog>(
     log: &mut L,
 ) -> Result<u8, AllocError>
     requires resumed { IsResumed (means S.System system.now S.Fetcher.Fetcher S.Recorder.Fetcher S.Recorder.noted (kept_as S.Body.kind_of S.Body.len_of S.Folder.holds) S.Folder.Folder S.Record.Write) order.now recorded.now }
-    ensures lives { IfOk result (LivesAgain (means S.System system.now S.Fetcher.Fetcher S.Recorder.Fetcher S.Recorder.noted (kept_as S.Body.kind_of S.Body.len_of S.Folder.holds) S.Folder.Folder S.Record.Write) order.now (W.contents writer.old) (W.contents writer.new)) }
+    ensures lives { IfOk result (SystemRunResumed (means S.System system.now S.Fetcher.Fetcher S.Recorder.Fetcher S.Recorder.noted (kept_as S.Body.kind_of S.Body.len_of S.Folder.holds) S.Folder.Folder S.Record.Write) order.now (W.contents writer.old) (W.contents writer.new)) }
     ensures unwritten { OnErr result (writer.new ≡ writer.old) }
     ensures logged { IsLogTaken (IsLogLive (means S.System system.now S.Fetcher.Fetcher S.Recorder.Fetcher S.Recorder.noted (kept_as S.Body.kind_of S.Body.len_of S.Folder.holds) S.Folder.Folder S.Record.Write) order.now) (L.contents log.old) (L.contents log.new) }
 {
@@ -221,7 +221,7 @@ fn live_saving<H: Threads + Wait + Sync, S: System, W: Write, L: RejectedLog>(
     log: &mut L,
 ) -> Result<u8, AllocError>
     requires resumed { IsResumed (means S.System system.now S.Fetcher.Fetcher S.Recorder.Fetcher S.Recorder.noted (kept_as S.Body.kind_of S.Body.len_of S.Folder.holds) S.Folder.Folder S.Record.Write) order.now recorded.now }
-    ensures lives { IfOk result (LivesSaving (means S.System system.now S.Fetcher.Fetcher S.Recorder.Fetcher S.Recorder.noted (kept_as S.Body.kind_of S.Body.len_of S.Folder.holds) S.Folder.Folder S.Record.Write) order.now path.now (W.contents writer.old) (W.contents writer.new)) }
+    ensures lives { IfOk result (SystemRunSaved (means S.System system.now S.Fetcher.Fetcher S.Recorder.Fetcher S.Recorder.noted (kept_as S.Body.kind_of S.Body.len_of S.Folder.holds) S.Folder.Folder S.Record.Write) order.now path.now (W.contents writer.old) (W.contents writer.new)) }
     ensures unwritten { OnErr result (writer.new ≡ writer.old) }
     ensures logged { IsLogTaken (IsLogLive (means S.System system.now S.Fetcher.Fetcher S.Recorder.Fetcher S.Recorder.noted (kept_as S.Body.kind_of S.Body.len_of S.Folder.holds) S.Folder.Folder S.Record.Write) order.now) (L.contents log.old) (L.contents log.new) }
 {
@@ -313,7 +313,7 @@ fn live_with<H: Threads + Wait + Sync, S: System, W: Write, L: RejectedLog>(
     log: &mut L,
 ) -> Result<u8, AllocError>
     requires resumed { IsResumed (means S.System system.now S.Fetcher.Fetcher S.Recorder.Fetcher S.Recorder.noted (kept_as S.Body.kind_of S.Body.len_of S.Folder.holds) S.Folder.Folder S.Record.Write) order.now recorded.now }
-    ensures lives { IfOk result (LivesWith (means S.System system.now S.Fetcher.Fetcher S.Recorder.Fetcher S.Recorder.noted (kept_as S.Body.kind_of S.Body.len_of S.Folder.holds) S.Folder.Folder S.Record.Write) order.now.save order.now (W.contents writer.old) (W.contents writer.new)) }
+    ensures lives { IfOk result (SystemRunOnRecord (means S.System system.now S.Fetcher.Fetcher S.Recorder.Fetcher S.Recorder.noted (kept_as S.Body.kind_of S.Body.len_of S.Folder.holds) S.Folder.Folder S.Record.Write) order.now.save order.now (W.contents writer.old) (W.contents writer.new)) }
     ensures unwritten { OnErr result (writer.new ≡ writer.old) }
     ensures logged { IsLogTaken (IsLogLive (means S.System system.now S.Fetcher.Fetcher S.Recorder.Fetcher S.Recorder.noted (kept_as S.Body.kind_of S.Body.len_of S.Folder.holds) S.Folder.Folder S.Record.Write) order.now) (L.contents log.old) (L.contents log.new) }
 {
@@ -377,7 +377,7 @@ fn live_in<H: Threads + Wait + Sync, S: System, W: Write, L: RejectedLog>(
     writer: &mut W,
     log: &mut L,
 ) -> Result<u8, ResumeFault>
-    ensures lives { IfOk result (LivesBy (means S.System system.now S.Fetcher.Fetcher S.Recorder.Fetcher S.Recorder.noted (kept_as S.Body.kind_of S.Body.len_of S.Folder.holds) S.Folder.Folder S.Record.Write) (order.now.resume, order.now.save) order.now (W.contents writer.old) (W.contents writer.new)) }
+    ensures lives { IfOk result (SystemRunByOrder (means S.System system.now S.Fetcher.Fetcher S.Recorder.Fetcher S.Recorder.noted (kept_as S.Body.kind_of S.Body.len_of S.Folder.holds) S.Folder.Folder S.Record.Write) (order.now.resume, order.now.save) order.now (W.contents writer.old) (W.contents writer.new)) }
     ensures unresumed { IfErr result (IsNotResumed (means S.System system.now S.Fetcher.Fetcher S.Recorder.Fetcher S.Recorder.noted (kept_as S.Body.kind_of S.Body.len_of S.Folder.holds) S.Folder.Folder S.Record.Write) order.now) }
     ensures unwritten { OnErr result (writer.new ≡ writer.old) }
     ensures logged { IsLogTaken (IsLogLive (means S.System system.now S.Fetcher.Fetcher S.Recorder.Fetcher S.Recorder.noted (kept_as S.Body.kind_of S.Body.len_of S.Folder.holds) S.Folder.Folder S.Record.Write) order.now) (L.contents log.old) (L.contents log.new) }
@@ -414,7 +414,7 @@ pub(crate) fn live_order<H: Threads + Wait + Sync, S: System, W: Write, L: Rejec
     writer: &mut W,
     log: &mut L,
 ) -> u8
-    ensures lives { LivesIn (means S.System system.now S.Fetcher.Fetcher S.Recorder.Fetcher S.Recorder.noted (kept_as S.Body.kind_of S.Body.len_of S.Folder.holds) S.Folder.Folder S.Record.Write) order.now (W.contents writer.old) (W.contents writer.new) result }
+    ensures lives { OrderedRun (means S.System system.now S.Fetcher.Fetcher S.Recorder.Fetcher S.Recorder.noted (kept_as S.Body.kind_of S.Body.len_of S.Folder.holds) S.Folder.Folder S.Record.Write) order.now (W.contents writer.old) (W.contents writer.new) result }
     ensures logged { IsLogTaken (IsLogLive (means S.System system.now S.Fetcher.Fetcher S.Recorder.Fetcher S.Recorder.noted (kept_as S.Body.kind_of S.Body.len_of S.Folder.holds) S.Folder.Folder S.Record.Write) order.now) (L.contents log.old) (L.contents log.new) }
 {
     match live_in(rt, alloc, system, order, writer, log) {

@@ -5,7 +5,7 @@ ghost use Rattle.local_tree.specs.Folders.{holding};
 ghost use Rattle.local_names.specs.Names.{AreDistinct};
 ghost use Rattle.retriever.specs.Found.{Finds, outside, torn_line, unchanged_line};
 ghost use Rattle.retriever.specs.Keeping.{kept_as};
-ghost use Rattle.retriever.specs.Live.{Lives};
+ghost use Rattle.retriever.specs.Live.{LiveRun};
 ghost use Rattle.retriever.specs.Mirrored.{IsPutAs, kept_as_named};
 ghost use Rattle.retriever.specs.inner.Live.{IsTornTold};
 ghost use Rattle.retriever.specs.inner.Parts.{IsToldAs, status_told};
@@ -303,7 +303,7 @@ where
     F::Body: HasKind + Send,
     requires some { 0 < vec_len fetchers }
     requires most { vec_len fetchers ≤ 64 }
-    ensures lives { Lives F.Fetcher (kept_as F.Body.kind_of F.Body.len_of D.holds) order.now fetchers.items (outside (holding D.files D.failed folder.old) (W.contents writer.old))
+    ensures lives { LiveRun F.Fetcher (kept_as F.Body.kind_of F.Body.len_of D.holds) order.now fetchers.items (outside (holding D.files D.failed folder.old) (W.contents writer.old))
         (outside (holding D.files D.failed folder.new) (W.contents writer.new)) result.0 }
     ensures retrieved { IfOk result.1 (IsRetrievedBy F.Fetcher order.now.plan fetchers.items) }
 {
@@ -355,7 +355,7 @@ where
     ensures finds { Finds F.Fetcher (kept_as F.Body.kind_of F.Body.len_of D.holds) order.now fetchers.items (outside (holding D.files D.failed folder.old) (W.contents writer.old))
         (outside (holding D.files D.failed folder.new) (W.contents writer.new)) result }
     // And which events led there.
-    ensures lives { Lives F.Fetcher (kept_as F.Body.kind_of F.Body.len_of D.holds) order.now fetchers.items (outside (holding D.files D.failed folder.old) (W.contents writer.old))
+    ensures lives { LiveRun F.Fetcher (kept_as F.Body.kind_of F.Body.len_of D.holds) order.now fetchers.items (outside (holding D.files D.failed folder.old) (W.contents writer.old))
         (outside (holding D.files D.failed folder.new) (W.contents writer.new)) result }
 {
     let (status, retrieved) = live_shown(rt, alloc, order, fetchers, folder, writer, None);

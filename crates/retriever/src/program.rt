@@ -4,10 +4,10 @@ ghost use Rattle.std.specs.IoError.{error_kind};
 ghost use Rattle.std.specs.Vec.Iter.{into_iter_items};
 ghost use Rattle.options.specs.Order.{order_of, ordered_by};
 ghost use Rattle.retriever.specs.Advice.{said_of};
-ghost use Rattle.retriever.specs.Finding.{FindsFor};
+ghost use Rattle.retriever.specs.Finding.{ProgramFinds};
 ghost use Rattle.retriever.specs.Order.{AreForInput, AreForLive};
 ghost use Rattle.retriever.specs.Keeping.{kept_as};
-ghost use Rattle.retriever.specs.Program.{IsExplained, IsFaultTold, IsQuietFor, LivesFor, outputs, words_behind, words_fault};
+ghost use Rattle.retriever.specs.Program.{IsExplained, IsFaultTold, IsQuietFor, ProgramRun, outputs, words_behind, words_fault};
 ghost use Rattle.retriever.specs.Rejecting.{IsLogBy, IsLogFor, IsLogTaken};
 ghost use Rattle.retriever.specs.inner.Program.{Starts, all_streams};
 ghost use Rattle.retriever.specs.Run.{Runs, fault_text};
@@ -141,7 +141,7 @@ fn run_order<H: Threads + Wait + Sync, S: System, R: Read, W: Write, L: Rejected
     ensures runs { order.now.source ≢ Source.Live → (words : List (List ℕ)) → order_of words ≡ Ok (ordered_by order.now)
         → Runs words (R.remaining reader.old) (W.contents writer.old) (W.contents writer.new) result }
     ensures lives { order.now.source ≡ Source.Live → (words : List (List ℕ)) → order_of words ≡ Ok (ordered_by order.now)
-        → LivesFor (means S.System system.now S.Fetcher.Fetcher S.Recorder.Fetcher S.Recorder.noted (kept_as S.Body.kind_of S.Body.len_of S.Folder.holds) S.Folder.Folder S.Record.Write) (W.contents writer.old) (W.contents writer.new) result words }
+        → ProgramRun (means S.System system.now S.Fetcher.Fetcher S.Recorder.Fetcher S.Recorder.noted (kept_as S.Body.kind_of S.Body.len_of S.Folder.holds) S.Folder.Folder S.Record.Write) (W.contents writer.old) (W.contents writer.new) result words }
     ensures unread { order.now.source ≡ Source.Live → reader.new ≡ reader.old }
     ensures logged { IsLogTaken (IsLogBy (means S.System system.now S.Fetcher.Fetcher S.Recorder.Fetcher S.Recorder.noted (kept_as S.Body.kind_of S.Body.len_of S.Folder.holds) S.Folder.Folder S.Record.Write) order.now (R.remaining reader.old)) (L.contents log.old) (L.contents log.new) }
 {
@@ -163,7 +163,7 @@ fn run_texts<H: Threads + Wait + Sync, S: System, R: Read, W: Write, E: Write, L
     errors: &mut E,
     log: &mut L,
 ) -> u8
-    ensures starts { Starts (LivesFor (means S.System system.now S.Fetcher.Fetcher S.Recorder.Fetcher S.Recorder.noted (kept_as S.Body.kind_of S.Body.len_of S.Folder.holds) S.Folder.Folder S.Record.Write) (W.contents writer.old) (W.contents writer.new) result)
+    ensures starts { Starts (ProgramRun (means S.System system.now S.Fetcher.Fetcher S.Recorder.Fetcher S.Recorder.noted (kept_as S.Body.kind_of S.Body.len_of S.Folder.holds) S.Folder.Folder S.Record.Write) (W.contents writer.old) (W.contents writer.new) result)
         (all_streams R.remaining reader.old (outputs E.contents (W.contents writer.old) errors.old)) (all_streams R.remaining reader.new (outputs E.contents (W.contents writer.new) errors.new)) result
         (map (λ word. word.now) words.now) }
     ensures logged { IsLogTaken (IsLogFor (means S.System system.now S.Fetcher.Fetcher S.Recorder.Fetcher S.Recorder.noted (kept_as S.Body.kind_of S.Body.len_of S.Folder.holds) S.Folder.Folder S.Record.Write) (R.remaining reader.old) (map (λ word. word.now) words.now)) (L.contents log.old) (L.contents log.new) }
@@ -189,7 +189,7 @@ fn run_words<H: Threads + Wait + Sync, S: System, R: Read, W: Write, E: Write, L
     errors: &mut E,
     log: &mut L,
 ) -> u8
-    ensures starts { Starts (LivesFor (means S.System system.now S.Fetcher.Fetcher S.Recorder.Fetcher S.Recorder.noted (kept_as S.Body.kind_of S.Body.len_of S.Folder.holds) S.Folder.Folder S.Record.Write) (W.contents writer.old) (W.contents writer.new) result)
+    ensures starts { Starts (ProgramRun (means S.System system.now S.Fetcher.Fetcher S.Recorder.Fetcher S.Recorder.noted (kept_as S.Body.kind_of S.Body.len_of S.Folder.holds) S.Folder.Folder S.Record.Write) (W.contents writer.old) (W.contents writer.new) result)
         (all_streams R.remaining reader.old (outputs E.contents (W.contents writer.old) errors.old)) (all_streams R.remaining reader.new (outputs E.contents (W.contents writer.new) errors.new)) result
         (words_behind all.now) }
     ensures logged { IsLogTaken (IsLogFor (means S.System system.now S.Fetcher.Fetcher S.Recorder.Fetcher S.Recorder.noted (kept_as S.Body.kind_of S.Body.len_of S.Folder.holds) S.Folder.Folder S.Record.Write) (R.remaining reader.old) (words_behind all.now)) (L.contents log.old) (L.contents log.new) }
@@ -220,7 +220,7 @@ fn run_args<H: Threads + Wait + Sync, S: System, R: Read, W: Write, E: Write, L:
     errors: &mut E,
     log: &mut L,
 ) -> u8
-    ensures starts { Starts (LivesFor (means S.System system.now S.Fetcher.Fetcher S.Recorder.Fetcher S.Recorder.noted (kept_as S.Body.kind_of S.Body.len_of S.Folder.holds) S.Folder.Folder S.Record.Write) (W.contents writer.old) (W.contents writer.new) result)
+    ensures starts { Starts (ProgramRun (means S.System system.now S.Fetcher.Fetcher S.Recorder.Fetcher S.Recorder.noted (kept_as S.Body.kind_of S.Body.len_of S.Folder.holds) S.Folder.Folder S.Record.Write) (W.contents writer.old) (W.contents writer.new) result)
         (all_streams R.remaining reader.old (outputs E.contents (W.contents writer.old) errors.old)) (all_streams R.remaining reader.new (outputs E.contents (W.contents writer.new) errors.new)) result
         (words_behind (into_iter_items args)) }
     ensures logged { IsLogTaken (IsLogFor (means S.System system.now S.Fetcher.Fetcher S.Recorder.Fetcher S.Recorder.noted (kept_as S.Body.kind_of S.Body.len_of S.Folder.holds) S.Folder.Folder S.Record.Write) (R.remaining reader.old) (words_behind (into_iter_items args))) (L.contents log.old) (L.contents log.new) }
@@ -268,12 +268,12 @@ pub fn run_program<
 ) -> u8
     // What a live run found, by its words, what is recorded already and what the system's fetchers may answer.
     ensures finds { IfOk args (λ all. AreForLive (words_behind (into_iter_items all))
-        → FindsFor (means S.System system.now S.Fetcher.Fetcher S.Recorder.Fetcher S.Recorder.noted (kept_as S.Body.kind_of S.Body.len_of S.Folder.holds) S.Folder.Folder S.Record.Write) (W.contents writer.old) (W.contents writer.new) result (words_behind (into_iter_items all))) }
+        → ProgramFinds (means S.System system.now S.Fetcher.Fetcher S.Recorder.Fetcher S.Recorder.noted (kept_as S.Body.kind_of S.Body.len_of S.Folder.holds) S.Folder.Folder S.Record.Write) (W.contents writer.old) (W.contents writer.new) result (words_behind (into_iter_items all))) }
     ensures runs { IfOk args (λ all. ¬ AreForLive (words_behind (into_iter_items all))
         → Runs (words_behind (into_iter_items all)) (R.remaining reader.old) (W.contents writer.old) (W.contents writer.new) result) }
     // And which events led there.
     ensures lives { IfOk args (λ all. AreForLive (words_behind (into_iter_items all))
-        → LivesFor (means S.System system.now S.Fetcher.Fetcher S.Recorder.Fetcher S.Recorder.noted (kept_as S.Body.kind_of S.Body.len_of S.Folder.holds) S.Folder.Folder S.Record.Write) (W.contents writer.old) (W.contents writer.new) result (words_behind (into_iter_items all))) }
+        → ProgramRun (means S.System system.now S.Fetcher.Fetcher S.Recorder.Fetcher S.Recorder.noted (kept_as S.Body.kind_of S.Body.len_of S.Folder.holds) S.Folder.Folder S.Record.Write) (W.contents writer.old) (W.contents writer.new) result (words_behind (into_iter_items all))) }
     ensures unread { IfOk args (λ all. ¬ AreForInput (words_behind (into_iter_items all)) → reader.new ≡ reader.old) }
     ensures told { IfOk args (λ all. ¬ AreForInput (words_behind (into_iter_items all)) → ¬ AreForLive (words_behind (into_iter_items all))
         → IsFaultTold (words_behind (into_iter_items all)) (outputs E.contents (W.contents writer.old) errors.old) (outputs E.contents (W.contents writer.new) errors.new) result) }

@@ -5,7 +5,7 @@ ghost use Rattle.local_tree.specs.Folders.{holding};
 ghost use Rattle.retriever.specs.Parts.{IsDelivered};
 ghost use Rattle.retriever.specs.Rejecting.{IsRetrievedBy};
 ghost use Rattle.retriever.specs.inner.Parts.{IsToldAs};
-ghost use Rattle.retriever.specs.Saving.{IsSaved, LivesResumed, LivesSaved, notes_of, outside_saved, resumes, resuming_of, save_status, save_text, unsaved_status};
+ghost use Rattle.retriever.specs.Saving.{IsSaved, ResumedRun, SavedRun, notes_of, outside_saved, resumes, resuming_of, save_status, save_text, unsaved_status};
 
 use crate::input_run::deliver;
 use crate::live_run::finish;
@@ -124,7 +124,7 @@ pub(crate) fn live_saved<
 ) -> (u8, Result<Harvest<Body>, Halt<Body>>)
     requires some { 0 < vec_len fetchers }
     requires most { vec_len fetchers ≤ 64 }
-    ensures lives { LivesSaved (notes_of F.Fetcher F.noted given.now) order.now fetchers.items (outside_saved (holding D.files D.failed folder.old) (W.contents writer.old) (V.contents saved.old))
+    ensures lives { SavedRun (notes_of F.Fetcher F.noted given.now) order.now fetchers.items (outside_saved (holding D.files D.failed folder.old) (W.contents writer.old) (V.contents saved.old))
         (outside_saved (holding D.files D.failed folder.new) (W.contents writer.new) (V.contents saved.new)) result.0 }
     ensures retrieved { IfOk result.1 (IsRetrievedBy F.Fetcher order.now.plan fetchers.items) }
 {
@@ -169,7 +169,7 @@ pub fn live_resumed<H: Threads + Wait + Sync, F: Recording + Send, D: Folder, W:
 ) -> u8
     requires some { 0 < vec_len fetchers }
     requires most { vec_len fetchers ≤ 64 }
-    ensures lives { LivesResumed (resumes F.Fetcher F.noted recorded.now) order.now fetchers.items (outside_saved (holding D.files D.failed folder.old) (W.contents writer.old) (V.contents saved.old))
+    ensures lives { ResumedRun (resumes F.Fetcher F.noted recorded.now) order.now fetchers.items (outside_saved (holding D.files D.failed folder.old) (W.contents writer.old) (V.contents saved.old))
         (outside_saved (holding D.files D.failed folder.new) (W.contents writer.new) (V.contents saved.new)) result }
 {
     match resuming(alloc, recorded, fetchers) {

@@ -16,9 +16,9 @@ all_streams remaining reader outputs = record { reader = reader; remaining = rem
 
 -- What becomes of the words: those that order a site on the network are retrieved live, and others run. No byte of the
 -- reader is read except of words for an input, and for words that order nothing something is written for a person.
-pub record Starts {R E : Type 0} (Lives : List (List ℕ) → Type 0) (before after : Streams R E) (status : ℕ) (words : List (List ℕ)) : Type 0 where
+pub record Starts {R E : Type 0} (LiveRun : List (List ℕ) → Type 0) (before after : Streams R E) (status : ℕ) (words : List (List ℕ)) : Type 0 where
   pub runs : ¬ AreForLive words → Runs words before.remaining before.outputs.written after.outputs.written status
-  pub lives : AreForLive words → Lives words
+  pub lives : AreForLive words → LiveRun words
   pub unread : ¬ AreForInput words → after.reader ≡ before.reader
   pub told : ¬ AreForInput words → ¬ AreForLive words → IsFaultTold words before.outputs after.outputs status
   pub quiet : AreForInput words ⊎ AreForLive words → IsQuietFor words before.outputs after.outputs

@@ -6,7 +6,7 @@ use Rattle.local_tree.specs.declared.disk_folder.originals.Originals.{Originals}
 use Rattle.site_records.specs.Resumption.{Resuming}
 use Rattle.retriever.specs.Found.{outside}
 use Rattle.retriever.specs.Keeping.{in_memory}
-use Rattle.retriever.specs.Live.{Lives}
+use Rattle.retriever.specs.Live.{LiveRun}
 use Rattle.retriever.specs.Rejecting.{IsLogOfCrew}
 use Rattle.retriever.specs.Saving.{resuming_means}
 use Rattle.retriever.proofs.LogLaws.{logged_more}
@@ -31,7 +31,7 @@ returns g c =
           opened = subst (λ (kept : Originals). g.S.System.opens c.args.system.now c.args.order.now.prefix kept c.in_ok-folder.folder) c.originals_of.ensures (subst (λ (path : List ℕ). g.S.System.opens c.args.system.now path c.originals_of.result c.in_ok-folder.folder) c.as_str.ensures c.in_ok-folder.ensures);
         };
         left = c.live_into.new.folder;
-        lives = subst (λ (fs : List (Resuming _)). Lives (resuming_means g.S.Recorder.Fetcher) in_memory c.args.order.now fs before after c.live_into.result) those.are c.live_into.ensures.lives;
+        lives = subst (λ (fs : List (Resuming _)). LiveRun (resuming_means g.S.Recorder.Fetcher) in_memory c.args.order.now fs before after c.live_into.result) those.are c.live_into.ensures.lives;
       };
       unwritten = tt;
       logged = logged_more _ _ _ _ c.live_into.ensures.logged

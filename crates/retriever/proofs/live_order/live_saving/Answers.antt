@@ -6,7 +6,7 @@ use Rattle.local_tree.specs.Folders.{holding}
 use Rattle.local_tree.specs.declared.disk_folder.originals.Originals.{Originals}
 use Rattle.site_records.specs.Resumption.{Resuming}
 use Rattle.retriever.specs.Rejecting.{IsLogOfCrew}
-use Rattle.retriever.specs.Saving.{LivesSaved, notes_of, noted_within, outside_saved, resuming_means}
+use Rattle.retriever.specs.Saving.{SavedRun, notes_of, noted_within, outside_saved, resuming_means}
 use Rattle.retriever.proofs.LogLaws.{crew_taken, logged_more}
 use Rattle.retriever.proofs.live_order.live_saving.Goals as goal
 
@@ -15,7 +15,7 @@ returns-clause-lives g c =
     let D = g.S.Folder.Folder in
     let V = g.S.Record.Write in
     let those = c.in_ok-resumed.ensures.resumed in
-    let lives = λ (given : List Noted) (all : List (Resuming _)). LivesSaved (notes_of (resuming_means g.S.Recorder.Fetcher) (noted_within g.S.Recorder.Recording.noted) given) c.args.order.now all
+    let lives = λ (given : List Noted) (all : List (Resuming _)). SavedRun (notes_of (resuming_means g.S.Recorder.Fetcher) (noted_within g.S.Recorder.Recording.noted) given) c.args.order.now all
     (outside_saved (holding D.files D.failed c.in_ok-folder.folder) (g.W.Write.contents c.args.writer.now) (V.contents c.in_ok-saved.saved))
     (outside_saved (holding D.files D.failed c.live_saved-status.new.folder) (g.W.Write.contents c.live_saved-status.new.writer) (V.contents c.live_saved-status.new.saved)) c.live_saved-status.result.0 in
     let of_record = subst (λ (given : List Noted). lives given c.in_ok-resumed.resumed.items) c.notes.ensures c.live_saved-status.ensures.lives in
