@@ -12,6 +12,7 @@
 //   EINTR          the first such call is interrupted
 //   gone           before the first such call the file is removed, and its directory with it
 //   moved          before the first such call the file gets another name, with `.moved` at its end
+//   other          before the first such call another file of as many bytes, each an x, takes its place
 //   A+B..          getaddrinfo answers these addresses, in this order
 //   never          getaddrinfo doesn't answer as long as a test lasts
 //   long           fstat says that the file is 2^31 bytes longer
@@ -99,6 +100,14 @@ static int is_failed(const char *call, const char *path)
         snprintf(other, sizeof other, "%s", path);
         NEXT(unlink)(other);
         NEXT(rmdir)(dirname(other));
+    } else if (!strcmp(plan, "other")) {
+        struct stat found;
+        snprintf(other, sizeof other, "%s.other", path);
+        FILE *to = stat(path, &found) ? NULL : fopen(other, "w");
+        for (off_t left = to ? found.st_size : 0; left > 0; left--)
+            fputc('x', to);
+        if (to && !fclose(to))
+            NEXT(rename)(other, path);
     } else {
         snprintf(other, sizeof other, "%s.moved", path);
         NEXT(rename)(path, other);
