@@ -53,7 +53,7 @@ module _ {S B F K D V : Type 0} (m : Means S B F K D V) where
       × IsSaved saving (m.records.contents begun) (m.records.contents written) (record_text (recorded.notes ++ flat_map (noted_within m.noted) left))
 
   -- The same if the order resumes a record or saves one: by fetchers that answer from the record what it states, and request the rest by others,
-  -- which the system makes for the order. If there is no memory for the first, nothing is requested, put or saved.
+  -- which the system makes for the order. Or a line says that there is no memory for the first.
   pub record SystemFindsOnRecord (order : Order) (before after : Option (List ℕ)) (status : ℕ) : Type 0 where
     pub recorded : RecordValue
     pub resumed : IsResumed m order recorded
