@@ -14,11 +14,11 @@ use Rattle.connect.specs.declared.connect.Connect.{Ghosts as Connects}
 use Rattle.http_fetcher.specs.declared.chain.Hop.{Hop}
 use Rattle.http_fetcher.specs.declared.chain.Hop.TheVariants.{Next, Last}
 use Rattle.http_fetcher.specs.Chains.{IsChain, SaysHop}
-use Rattle.http_fetcher.specs.Fetching.{Fetching, IsGiven, IsToldByTries}
+use Rattle.http_fetcher.specs.Fetching.{AnsweredWithRetry, Fetching, IsGiven}
 
 -- what was received over a connection is given, by a fetcher with the settings of another
 pub given_by : {C W : Type 0} (connects : Connects C W) (wires : Wires W) (limits : Limited) (first old new : Fetching C) (at : AddressText) (answer : Answer BodyValue)
-    → old.links ≡ first.links → old.keeps ≡ first.keeps → old.sends ≡ first.sends → IsToldByTries connects wires limits old new at answer
+    → old.links ≡ first.links → old.keeps ≡ first.keeps → old.sends ≡ first.sends → AnsweredWithRetry connects wires limits old new at answer
     → IsGiven connects wires limits first at answer.outcome answer.body
 given_by connects wires limits first old new at answer links keeps sends told =
     (old.connect, new.connect, rw (sym links, sym keeps, sym sends) told)

@@ -9,7 +9,7 @@ use Rattle.address.specs.Address.{AddressText, OriginText, origin_of}
 use Rattle.fetcher.specs.declared.answer.Answer.{Answer}
 use Rattle.connect.specs.declared.connect.Connect.{Ghosts as Connects}
 use Rattle.connect.specs.Connects.{Stays}
-use Rattle.http_fetcher.specs.Fetching.{ComesOver, Fetching, IsKeptAfter, IsToldAnew, IsToldByTries, IsUnmade, IsUntold, LeavesUsable, Question, StandsBy, StandsBehind, question_of}
+use Rattle.http_fetcher.specs.Fetching.{AnsweredOnNew, AnsweredWithRetry, ComesOver, Fetching, IsKeptAfter, LeavesUsable, NoAnswerOnKept, NoConnectionMade, Question, StandsBehind, StandsBy, question_of}
 
 pub if_ok_some_map : {T E : Type 0} (r : Result (Option T) E) (P Q : T → Type 0) → IfOk r (λ o. IfSome o P) → ((a : T) → P a → Q a) → IfOk r (λ o. IfSome o Q)
 if_ok_some_map (Ok None) P Q p step = tt
@@ -26,32 +26,32 @@ same_question limits old mid at links keeps sends i = record { at = at; links = 
 
 module _ {C W : Type 0} (connects : Connects C W) (wires : Wires W) (limits : Limited) where
   -- a wire that is kept after a question was kept before, or was left by it
-  pub stands_by : (old mid new : OriginText → W → Type 0) (question : Question) (of : OriginText) (serves : Bool) (given left : W)
+  pub stands_by : (old mid new : OriginText → W → Type 0) (question : Question) (of : OriginText) (reusable : Bool) (given left : W)
       → of ≡ origin_of question.at → Stays old mid
-      → ((o : OriginText) (w : W) → new o w → mid o w ⊎ ((o ≡ of) × (question.keeps ≡ true) × (serves ≡ true) × connects.again left w))
-      → (IsTrue serves → LeavesUsable wires question given left)
+      → ((o : OriginText) (w : W) → new o w → mid o w ⊎ ((o ≡ of) × (question.keeps ≡ true) × (reusable ≡ true) × connects.again left w))
+      → (IsTrue reusable → LeavesUsable wires question given left)
       → (o : OriginText) (w : W) → new o w → old o w ⊎ IsKeptAfter connects wires limits question o w
-  stands_by old mid new question of serves given left is stays put leaves o w now = by (put o w now)
+  stands_by old mid new question of reusable given left is stays put leaves o w now = by (put o w now)
     where
-      by : mid o w ⊎ ((o ≡ of) × (question.keeps ≡ true) × (serves ≡ true) × connects.again left w) → old o w ⊎ IsKeptAfter connects wires limits question o w
+      by : mid o w ⊎ ((o ≡ of) × (question.keeps ≡ true) × (reusable ≡ true) × connects.again left w) → old o w ⊎ IsKeptAfter connects wires limits question o w
       by (inl was) = inl (stays o w was)
       by (inr x) = inr (x.0 ∙ is, x.1, given, left, leaves x.2, x.3)
 
   -- an answer over a new connection, if before it none was taken, or one over which no byte came
   pub told_second : (old mid new : Fetching C) (at : AddressText) (answer : Answer BodyValue) → connects.made mid.connect ≡ connects.made old.connect
       → connects.refused mid.connect ≡ connects.refused old.connect → mid.links ≡ old.links → mid.keeps ≡ old.keeps → mid.sends ≡ old.sends
-      → Stays (connects.gives old.connect) (connects.gives mid.connect) → IsUntold connects wires limits old mid at
+      → Stays (connects.gives old.connect) (connects.gives mid.connect) → NoAnswerOnKept connects wires limits old mid at
       → connects.taken new.connect ≡ connects.taken mid.connect → connects.made new.connect ≡ counted (connects.made mid.connect) 1
-      → IsToldAnew connects wires limits mid new at answer → IsToldByTries connects wires limits old new at answer
+      → AnsweredOnNew connects wires limits mid new at answer → AnsweredWithRetry connects wires limits old new at answer
   told_second old mid new at answer made-is refused-is links-is keeps-is sends-is stays silent taken-is one told =
       inr (subst (λ n. connects.made new.connect ≡ counted n 1) made-is one, before silent, by told)
     where
-      before : IsUntold connects wires limits old mid at → IsUntold connects wires limits old new at
+      before : NoAnswerOnKept connects wires limits old mid at → NoAnswerOnKept connects wires limits old new at
       before (inl none) = inl (taken-is ∙ none)
       before (inr s) = inr (taken-is ∙ s.0, s.1, s.2)
 
-      by : IsToldAnew connects wires limits mid new at answer → IsToldAnew connects wires limits old new at answer
-      by (inl unmade) = inl (subst (λ n. IsUnmade n (connects.refused new.connect) answer) refused-is unmade)
+      by : AnsweredOnNew connects wires limits mid new at answer → AnsweredOnNew connects wires limits old new at answer
+      by (inl unmade) = inl (subst (λ n. NoConnectionMade n (connects.refused new.connect) answer) refused-is unmade)
       by (inr t) =
           inr (t.0, stays (origin_of at) t.0 t.1, subst (λ q. ComesOver wires q t.0 answer) (same_question limits old mid at links-is keeps-is sends-is) t.2)
 

@@ -9,7 +9,7 @@ use Rattle.fetcher.specs.declared.answer.Answer.{Answer}
 use Rattle.fetcher.specs.declared.outcome.Outcome.{Outcome}
 use Rattle.connect.specs.declared.connect.Connect.{Ghosts as Connects}
 use Rattle.http_fetcher.specs.Chains.{IsChain}
-use Rattle.http_fetcher.specs.Fetching.{AnswersBytes, ComesOver, Fetching, IsGiven, IsToldAnew, IsToldByTries, Question, question_of}
+use Rattle.http_fetcher.specs.Fetching.{AnsweredOnNew, AnsweredWithRetry, AnswersBytes, ComesOver, Fetching, IsGiven, Question, question_of}
 use Rattle.http_fetcher.specs.Meanings.{MayAnswerWithin}
 
 -- what bytes say may be answered
@@ -38,13 +38,13 @@ chain_of_more Told More (suc n) at rules more (x, body, told, inr (next, on, res
 module _ {C W : Type 0} (connects : Connects C W) (wires : Wires W) (limits : Limited) where
   -- what was received over a connection, or that none was made, may be answered
   pub may_answer_anew : (old new : Fetching C) (at : AddressText) (answer : Answer BodyValue)
-      → IsToldAnew connects wires limits old new at answer → MayAnswerWithin limits old.links at answer.outcome answer.body
+      → AnsweredOnNew connects wires limits old new at answer → MayAnswerWithin limits old.links at answer.outcome answer.body
   may_answer_anew old new at answer (inl unmade) = inr (inr (inl (unmade.1, unmade.2)))
   may_answer_anew old new at answer (inr (given, gave, over)) = may_answer_over wires (question_of limits old at) given answer over
 
   -- what was received, over a connection that was kept or a new one, may be answered
   pub may_answer : (old new : Fetching C) (at : AddressText) (answer : Answer BodyValue)
-      → IsToldByTries connects wires limits old new at answer → MayAnswerWithin limits old.links at answer.outcome answer.body
+      → AnsweredWithRetry connects wires limits old new at answer → MayAnswerWithin limits old.links at answer.outcome answer.body
   may_answer old new at answer (inl (made, taken, holds, counts, (given, gave, over))) = may_answer_over wires (question_of limits old at) given answer over
   may_answer old new at answer (inr (made, before, told)) = may_answer_anew old new at answer told
 

@@ -20,7 +20,7 @@ use Rattle.http_fetcher.specs.declared.chain.Hop.{Hop}
 use Rattle.http_fetcher.specs.declared.chain.Hop.TheVariants.{Next, Last}
 use Rattle.http_fetcher.specs.Chains.{SaysHop}
 use Rattle.http_fetcher.specs.inner.Chains.{IsHopTold}
-use Rattle.http_fetcher.specs.Fetching.{Fetching, IsToldByTries, answer_told}
+use Rattle.http_fetcher.specs.Fetching.{AnsweredWithRetry, Fetching, answer_told}
 use Rattle.html_links.specs.declared.rules.LinkRules.{LinkRules}
 
 or_split : (x y : Bool) → (x || y) ≡ true → (x ≡ true) ⊎ (y ≡ true)
@@ -106,6 +106,6 @@ tells_of at told left hop read is tells = subst (λ h. IsHopTold at told left h)
 -- an answer that says what was received over a connection was received over it
 pub told_by_answer : {C W : Type 0} (connects : Connects C W) (wires : Wires W) (limits : Limited) (old now new : Fetching C) (at : AddressText) (told : Told) (answer : Answer BodyValue)
     → now ≡ new → new.links ≡ old.links → answer.outcome ≡ outcome_told now.links at told → answer.body ≡ body_told told
-    → IsToldByTries connects wires limits old new at (answer_told old.links at told) → IsToldByTries connects wires limits old now at answer
+    → AnsweredWithRetry connects wires limits old new at (answer_told old.links at told) → AnsweredWithRetry connects wires limits old now at answer
 told_by_answer connects wires limits old now new at told answer same is outcome_is body_is h =
     rw (outcome_is, body_is, same, is) h

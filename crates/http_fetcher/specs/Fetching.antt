@@ -85,12 +85,12 @@ AnswersBytes question before after answer bytes =
     IsDigestOf question.limits question.links question.at answer.outcome answer.body bytes ⊎ IsFaultOfBytes question.limits before after answer bytes
 
 -- no connection was made
-abbrev pub IsUnmade : ℕ → ℕ → Answer BodyValue → Type 0
-IsUnmade before after answer = HasRisen before after × (answer.outcome ≡ Fault kind.Connect) × (answer.body ≡ no_body)
+abbrev pub NoConnectionMade : ℕ → ℕ → Answer BodyValue → Type 0
+NoConnectionMade before after answer = HasRisen before after × (answer.outcome ≡ Fault kind.Connect) × (answer.body ≡ no_body)
 
 -- the request couldn't be written, since the wire failed
-abbrev pub IsUnwritten : ℕ → ℕ → Answer BodyValue → Type 0
-IsUnwritten before after answer = HasRisen before after × (answer.outcome ≡ Fault kind.Device) × (answer.body ≡ no_body)
+abbrev pub RequestUnwritten : ℕ → ℕ → Answer BodyValue → Type 0
+RequestUnwritten before after answer = HasRisen before after × (answer.outcome ≡ Fault kind.Device) × (answer.body ≡ no_body)
 
 -- the answer is the status with which a server gives up waiting for a request (RFC 9110, section 15.5.9)
 abbrev pub is_given_up : Outcome → Bool
@@ -119,13 +119,13 @@ module _ {W : Type 0} (wires : Wires W) where
   abbrev pub ComesOver : Question → W → Answer BodyValue → Type 0
   ComesOver question given answer =
       (asked : W) × (left : W)
-      × (IsUnwritten (wires.failed given) (wires.failed left) answer
+      × (RequestUnwritten (wires.failed given) (wires.failed left) answer
       ⊎ (IsAsked question given asked × Keeps (wires.outgoing asked) (wires.outgoing left)
       × OfBytes (wires.incoming asked) (AnswersBytes question (wires.failed asked) (wires.failed left) answer)))
 
   -- the same over a wire that was given for the address's origin
-  abbrev pub IsToldByWire : (OriginText → W → Type 0) → Question → Answer BodyValue → Type 0
-  IsToldByWire gives question answer = (given : W) × gives (origin_of question.at) given × ComesOver question given answer
+  abbrev pub ComesOverOneOf : (OriginText → W → Type 0) → Question → Answer BodyValue → Type 0
+  ComesOverOneOf gives question answer = (given : W) × gives (origin_of question.at) given × ComesOver question given answer
 
   -- over a wire the request went out, or couldn't be written, and no byte came back: it had ended, or failed, and not since a time
   -- limit ran out
@@ -142,12 +142,12 @@ module _ {W : Type 0} (wires : Wires W) where
       (answer : Answer BodyValue) × (is_given_up answer.outcome ≡ true) × ComesOver question given answer
 
   -- over a wire came no answer, or that one: the question may be put once more over a new one
-  abbrev pub IsSilentOn : Question → W → Type 0
-  IsSilentOn question given = IsUnansweredOn question given ⊎ IsGivenUpOn question given
+  abbrev pub AllowsRetry : Question → W → Type 0
+  AllowsRetry question given = IsUnansweredOn question given ⊎ IsGivenUpOn question given
 
   -- the same over a wire that had served before
-  abbrev pub IsSilent : (OriginText → W → Type 0) → Question → Type 0
-  IsSilent stands question = (given : W) × stands (origin_of question.at) given × IsSilentOn question given
+  abbrev pub AllowsRetryOnOneOf : (OriginText → W → Type 0) → Question → Type 0
+  AllowsRetryOnOneOf stands question = (given : W) × stands (origin_of question.at) given × AllowsRetry question given
 
   -- over a wire the request was written and nothing after it, and its response was read to its last byte, with none after it, and leaves the connection usable
   abbrev pub LeavesUsable : Question → W → W → Type 0
@@ -175,35 +175,35 @@ module _ {C W : Type 0} (connects : Connects C W) (wires : Wires W) (limits : Li
       → connects.stands old.connect of wire ⊎ ((at : AddressText) × IsKeptAfter (question_of limits old at) of wire)
 
   -- an answer comes over a connection that was kept, and no other is requested: it isn't that of a server that had given up waiting
-  abbrev pub IsToldAgain : Fetching C → Fetching C → AddressText → Answer BodyValue → Type 0
-  IsToldAgain old new at answer =
+  abbrev pub AnsweredOnKept : Fetching C → Fetching C → AddressText → Answer BodyValue → Type 0
+  AnsweredOnKept old new at answer =
       (connects.made new.connect ≡ connects.made old.connect)
       × (connects.taken new.connect ≡ counted (connects.taken old.connect) 1) × (old.keeps ≡ true)
       × (is_given_up answer.outcome ≡ false)
-      × IsToldByWire wires (connects.stands old.connect) (question_of limits old at) answer
+      × ComesOverOneOf wires (connects.stands old.connect) (question_of limits old at) answer
 
   -- no connection was taken that was kept, or one over which no byte came, or the answer of a server that had given up waiting
-  abbrev pub IsUntold : Fetching C → Fetching C → AddressText → Type 0
-  IsUntold old new at =
+  abbrev pub NoAnswerOnKept : Fetching C → Fetching C → AddressText → Type 0
+  NoAnswerOnKept old new at =
       (connects.taken new.connect ≡ connects.taken old.connect)
       ⊎ ((connects.taken new.connect ≡ counted (connects.taken old.connect) 1) × (old.keeps ≡ true)
-      × IsSilent wires (connects.stands old.connect) (question_of limits old at))
+      × AllowsRetryOnOneOf wires (connects.stands old.connect) (question_of limits old at))
 
   -- no connection was made, or an answer comes over one that was
-  abbrev pub IsToldAnew : Fetching C → Fetching C → AddressText → Answer BodyValue → Type 0
-  IsToldAnew old new at answer =
-      IsUnmade (connects.refused old.connect) (connects.refused new.connect) answer
-      ⊎ IsToldByWire wires (connects.gives old.connect) (question_of limits old at) answer
+  abbrev pub AnsweredOnNew : Fetching C → Fetching C → AddressText → Answer BodyValue → Type 0
+  AnsweredOnNew old new at answer =
+      NoConnectionMade (connects.refused old.connect) (connects.refused new.connect) answer
+      ⊎ ComesOverOneOf wires (connects.gives old.connect) (question_of limits old at) answer
 
   -- an answer comes over a connection that was kept, and no other is requested; or one more is requested, once, and before it
   -- none was taken, or one over which no byte came, or the answer of a server that had given up waiting
-  abbrev pub IsToldByTries : Fetching C → Fetching C → AddressText → Answer BodyValue → Type 0
-  IsToldByTries old new at answer =
-      IsToldAgain old new at answer
-      ⊎ ((connects.made new.connect ≡ counted (connects.made old.connect) 1) × IsUntold old new at × IsToldAnew old new at answer)
+  abbrev pub AnsweredWithRetry : Fetching C → Fetching C → AddressText → Answer BodyValue → Type 0
+  AnsweredWithRetry old new at answer =
+      AnsweredOnKept old new at answer
+      ⊎ ((connects.made new.connect ≡ counted (connects.made old.connect) 1) × NoAnswerOnKept old new at × AnsweredOnNew old new at answer)
 
   -- the same at some time, by what asks as this fetcher does
   abbrev pub IsGiven : Fetching C → AddressText → Outcome → BodyValue → Type 0
   IsGiven fetcher at x body =
       (by : C) × (after : C)
-      × IsToldByTries (record fetcher { connect = by }) (record fetcher { connect = after }) at (record { outcome = x; body = body })
+      × AnsweredWithRetry (record fetcher { connect = by }) (record fetcher { connect = after }) at (record { outcome = x; body = body })

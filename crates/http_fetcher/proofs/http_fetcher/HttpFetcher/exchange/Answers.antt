@@ -4,7 +4,7 @@ use Rattle.std.proofs.lemmas.Result.{err_from_is_err_and}
 use Rattle.std.specs.Prelude.{◌≡◌, ◌≤◌, ◌+◌, OnOk}
 use Rattle.response_reader.specs.Wire.{counted}
 use Rattle.response_reader.specs.Limits.{standard}
-use Rattle.http_fetcher.specs.Fetching.{IsToldByTries, answer_told}
+use Rattle.http_fetcher.specs.Fetching.{AnsweredWithRetry, answer_told}
 use Rattle.http_fetcher.proofs.ExitLemmas.{none_made}
 use Rattle.http_fetcher.proofs.KeptLemmas.{if_ok_on, stands_twice, told_second}
 use Rattle.http_fetcher.proofs.http_fetcher.HttpFetcher.exchange.Goals as goal
@@ -76,7 +76,7 @@ returns g c =
       one = λ none. subst (λ n. OnOk c.exchange_on_new.result (g.C.Connect.made new.connect ≡ counted n 1)) before.made after.one;
       most = subst (λ n. g.C.Connect.made new.connect ≤ n + 1) before.made after.most;
       told = if_ok_on c.exchange_on_new.result _ _ _ after.one after.told
-          (λ one t told. subst (λ b. IsToldByTries g.C.Connect g.C.Wire.Wire standard old new c.args.at.now (answer_told b c.args.at.now t)) before.links
+          (λ one t told. subst (λ b. AnsweredWithRetry g.C.Connect g.C.Wire.Wire standard old new c.args.at.now (answer_told b c.args.at.now t)) before.links
           (told_second g.C.Connect g.C.Wire.Wire standard old mid new c.args.at.now (answer_told mid.links c.args.at.now t) before.made before.refused before.links before.keeps before.sends
           (rw c.in-None.is at before.gives) (rw c.in-None.is at before.silent) after.taken one told));
       stands = stands_twice g.C.Connect g.C.Wire.Wire standard old mid new c.args.at.now before.links before.keeps before.sends before.stands after.stands;

@@ -61,7 +61,7 @@ returns-then-has_given_up g c =
           c.in-Some.wire,
           c.in-Some.ensures.given,
           inr (
-            answer_told c.self.inside.links c.args.at.now c.in-Ok-Some.heard.told,
+            answer_told c.self.inside.links c.args.at.now c.in-Ok-Some.received.told,
             sym (c.has_given_up.ensures c.self.inside.links c.args.at.now) ∙ c.if-has_given_up.true,
             rw c.in-Ok-Some.field-0-is at c.in-Ok-Some.ensures.told,
           ),
@@ -95,8 +95,8 @@ returns-else-has_given_up g c =
         (c.in-Some.wire, c.in-Some.ensures.given, rw c.in-Ok-Some.field-0-is at c.in-Ok-Some.ensures.told),
       );
       stands = stands_by g.C.Connect g.C.Wire.Wire standard _ _ _ (record { at = c.args.at.now; links = c.self.inside.links; keeps = c.self.inside.keeps; sends = c.self.inside.sends; limits = standard })
-          _ c.in-Ok-Some.heard.serves c.in-Some.wire c.told_over_kept.new.wire c.requires c.take.ensures.stands
-          (rw same at put.stands) (rw c.in-Ok-Some.field-0-is at c.in-Ok-Some.ensures.serves);
+          _ c.in-Ok-Some.received.reusable c.in-Some.wire c.told_over_kept.new.wire c.requires c.take.ensures.stands
+          (rw same at put.stands) (rw c.in-Ok-Some.field-0-is at c.in-Ok-Some.ensures.reusable);
     })
 
 pub returns-in-Ok-None : goal.returns-in-Ok-None

@@ -25,8 +25,8 @@ returns-in-Ok-told_over g c =
       taken = put.taken ∙ ap (λ (f : Fetching _). g.C.Connect.taken f.connect) same ∙ c.connect.ensures.taken;
       told = rw (sym c.requires) (inr (c.in-Ok.wire, c.in-Ok.ensures.given, c.in-Ok-told_over.ensures.told));
       stands = stands_by g.C.Connect g.C.Wire.Wire standard _ _ _ (record { at = c.args.at.now; links = c.self.inside.links; keeps = c.self.inside.keeps; sends = c.self.inside.sends; limits = standard })
-          _ c.in-Ok-told_over.heard.serves c.in-Ok.wire c.told_over.new.wire c.requires c.in-Ok.ensures.stands
-          (rw same at put.stands) c.in-Ok-told_over.ensures.serves;
+          _ c.in-Ok-told_over.received.reusable c.in-Ok.wire c.told_over.new.wire c.requires c.in-Ok.ensures.stands
+          (rw same at put.stands) c.in-Ok-told_over.ensures.reusable;
     })
 
 pub returns-in-Err : goal.returns-in-Err

@@ -101,8 +101,8 @@ returns-else-says_given_up g c =
         ),
       );
       stands = stands_by g.C.Connect g.C.Wire.Wire (limited c.args.limits) _ _ _ (record { at = c.args.at.now; links = c.self.inside.links; keeps = c.self.inside.keeps; sends = c.self.inside.sends; limits = limited c.args.limits })
-          _ c.in-Ok-Some.heard.serves c.in-Some.wire c.page_over_kept.new.wire c.requires c.take.ensures.stands
-          (rw same at put.stands) (rw c.in-Ok-Some.field-0-is at c.in-Ok-Some.ensures.serves);
+          _ c.in-Ok-Some.received.reusable c.in-Some.wire c.page_over_kept.new.wire c.requires c.take.ensures.stands
+          (rw same at put.stands) (rw c.in-Ok-Some.field-0-is at c.in-Ok-Some.ensures.reusable);
     })
 
 pub returns-in-Ok-None : goal.returns-in-Ok-None

@@ -29,8 +29,8 @@ returns-in-Ok-page_over g c =
       taken = put.taken ∙ ap (λ (f : Fetching _). g.C.Connect.taken f.connect) same ∙ c.connect.ensures.taken;
       told = (said.0, said.1, rw (sym c.requires) (inr (c.in-Ok.wire, c.in-Ok.ensures.given, said.2)));
       stands = stands_by g.C.Connect g.C.Wire.Wire (limited c.args.limits) _ _ _ (record { at = c.args.at.now; links = c.self.inside.links; keeps = c.self.inside.keeps; sends = c.self.inside.sends; limits = limited c.args.limits })
-          _ c.in-Ok-page_over.heard.serves c.in-Ok.wire c.page_over.new.wire c.requires c.in-Ok.ensures.stands
-          (rw same at put.stands) c.in-Ok-page_over.ensures.serves;
+          _ c.in-Ok-page_over.received.reusable c.in-Ok.wire c.page_over.new.wire c.requires c.in-Ok.ensures.stands
+          (rw same at put.stands) c.in-Ok-page_over.ensures.reusable;
     })
 
 pub returns-in-Err : goal.returns-in-Err

@@ -12,5 +12,5 @@ returns-in-Ok-clause-told g c =
 
 pub returns-in_ok-fault-in-Err-Device-clause-told : goal.returns-in_ok-fault-in-Err-Device-clause-told
 returns-in_ok-fault-in-Err-Device-clause-told g c =
-    let heard = c.in_ok-fault-in-Err-Device.ensures in
-    (record { outcome = Fault Device; body = no_body }, (heard.outcome, heard.body), (c.write.new.wire, c.write.new.wire, inl (c.in-Err-Device.ensures.device (ap Err c.in-Err-Device.field-0-is), refl, refl)))
+    let received = c.in_ok-fault-in-Err-Device.ensures in
+    (record { outcome = Fault Device; body = no_body }, (received.outcome, received.body), (c.write.new.wire, c.write.new.wire, inl (c.in-Err-Device.ensures.device (ap Err c.in-Err-Device.field-0-is), refl, refl)))

@@ -18,8 +18,8 @@ returns-in_ok-answer-in-Ok-Some-clause-told g c =
       (all.0, all.1, inl (r, (rest, is), says, refl)),
     )
 
-pub returns-in_ok-heard-in-Err-clause-told : goal.returns-in_ok-heard-in-Err-clause-told
-returns-in_ok-heard-in-Err-clause-told g c =
+pub returns-in_ok-received-in-Err-clause-told : goal.returns-in_ok-received-in-Err-clause-told
+returns-in_ok-received-in-Err-clause-told g c =
     let all = c.in-Err.ensures.fault in
-    let (kind, is, outcome, holds) = c.in_ok-heard-in-Err.ensures.told in
+    let (kind, is, outcome, holds) = c.in_ok-received-in-Err.ensures.told in
     (record { outcome = Fault kind; body = no_body }, (outcome, holds), (all.0, all.1, inr (c.in-Err.fault, kind, is, all.2, (λ device. c.in-Err.ensures.device (ap Err device)), refl, refl)))
