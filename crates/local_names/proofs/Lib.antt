@@ -9,3 +9,4 @@ pub mod OrderLaws
 pub mod LeastLaws
 pub mod LocalLaws
 pub mod OriginalLaws
+pub mod DirectoryLaws

@@ -1,7 +1,7 @@
 -- Plain names of addresses: their segments, that each name made of one stays inside its folder, and how they are written.
 use Rattle.std.proofs.Common.{zero, suc, ◌≡◌, ◌≢◌, ℕ, ◌+◌, ◌-◌, ◌<◌, ◌≤◌, ◌==◌, min, Bool, true, false, not, ◌&&◌, cond, Option, Some, None, List, [], ◌∷◌, ◌++◌, length, map, get_or, take, drop, codes, All, sym, refl, ap, ◌∙◌, subst, inl, inr, arith, append_assoc}
 use denote.Ref.{Bor}
-use Rattle.std.proofs.lemmas.Bool.{eqb-true, cond_both, cond-true, cases_lt}
+use Rattle.std.proofs.lemmas.Bool.{eqb-true, cond_both, cond-true, cond-false, cases_lt}
 use Rattle.std.proofs.lemmas.List.{append-nil, map-append, length-map, length-append, nil_from_length, take_rest, drop_all}
 use Rattle.std.proofs.lemmas.List.Elements.{filter-append, filter_passes, All-nil, All-cons, All-append, All-map, All-weaker, All-head, All-tail, All-drop}
 use Rattle.std.proofs.lemmas.Str.{IsUtf8-string_bytes}
@@ -19,15 +19,16 @@ use Rattle.local_names.specs.declared.rules.NameRules.{NameRules}
 use Rattle.kept_bodies.specs.declared.body_kind.BodyKind.{BodyKind}
 use Rattle.kept_bodies.specs.declared.body_kind.BodyKind.TheVariants.{Html, Sheet, Other}
 use Rattle.local_names.specs.declared.plain_name.TheConstants.{MAX_SEGMENT}
-use Rattle.local_names.specs.PlainNames.{slash, is_slash, has_bytes, units_of, marked_units, with_letters, port_mark, query_mark, host_units, dir_segments, path_units, or_index, default_page, file_units, last_units, scheme_segment, host_segment, front_segments, is_part, is_alone, segment_within, local_segment, local_segments, segments_within, plain_name_within, plain_name_with, is_original, plain_name_of}
+use Rattle.local_names.specs.PlainNames.{slash, is_slash, has_bytes, units_of, marked_units, with_letters, port_mark, query_mark, host_units, dir_segments, path_units, or_index, default_page, file_units, last_units, Segment, segment_with, dir_segment, path_segment, scheme_segment, host_segment, front_segments, is_part, is_alone, segment_within, local_segment, local_segments, segments_within, plain_name_within, plain_name_with, is_original, plain_name_of}
 use Rattle.local_names.specs.Endings.{shows_kind, ended_name, ended_names, ShowKinds, stem_of, ending_of}
 use Rattle.local_names.specs.Names.{numbered_by, IsNamingBy}
 use Rattle.local_names.specs.LocalNames.{IsInner, StaysInside, IsShort, HasShortSegmentsBy, IsUncontrolled, IsText, IsNoPart}
 use Rattle.local_names.specs.inner.Units.{lent_bytes, below, below_within, all_below}
 use Rattle.local_names.proofs.NamingLaws.{numbered_name-zero, numbered_name-suc}
+use Rattle.local_names.proofs.OriginalLaws.{EndsOtherwise, dir_ends}
 use Rattle.local_names.proofs.EndingLaws.{stem_ending, no_slash_ending, numbered_shows, ended_shows, length-ended_names, get_or-ended_names}
 use Rattle.local_names.proofs.UnitLaws.{IsSegmentByte, IsUnit, IsSegment, units_are, units_present, marked_are, segment_within_is, length-segment_within, local_segment_is, local_segment_short, first_no_part, part_before_slash, part_before_dot, front_no_part, dot_no_part}
-use Rattle.local_names.proofs.SegmentLaws.{split_joined, join_push, last_of, joined_text, decimal_first, dotted_segment_is, segment_bytes_from, numbered_segment_is}
+use Rattle.local_names.proofs.SegmentLaws.{present_length, split_joined, join_push, last_of, joined_text, decimal_first, dotted_segment_is, segment_bytes_from, numbered_segment_is}
 
 -- ---- segments of a path, as they are read
 
@@ -69,13 +70,12 @@ uncut k dirs all is =
 
 -- ---- names to which segments are added
 
-pub all_below-append : (name : List ℕ) (xs ys : List (List (List ℕ))) → all_below name (xs ++ ys) ≡ all_below (all_below name xs) ys
+pub all_below-append : (name : List ℕ) (xs ys : List Segment) → all_below name (xs ++ ys) ≡ all_below (all_below name xs) ys
 all_below-append name [] ys = refl
 all_below-append name (x ∷ xs) ys = all_below-append (below name x) xs ys
 
-below_some : (name : List ℕ) (units : List (List ℕ)) → has_bytes name ≡ true → below name units ≡ name ++ slash ∷ local_segment false units
-below_some name units has =
-    ap (λ b. cond b (name ++ slash ∷ []) [] ++ local_segment (not b) units) has ∙ append_assoc name (slash ∷ []) (local_segment false units)
+below_some : (name : List ℕ) (segment : Segment) → has_bytes name ≡ true → below name segment ≡ name ++ slash ∷ segment false
+below_some name segment has = ap (λ b. cond b (name ++ slash ∷ []) [] ++ segment (not b)) has ∙ append_assoc name (slash ∷ []) (segment false)
 
 has_more : (xs ys : List ℕ) (y : ℕ) → has_bytes (xs ++ y ∷ ys) ≡ true
 has_more [] ys y = refl
@@ -85,33 +85,33 @@ join_front : (first segment : List ℕ) (rest : List (List ℕ)) → join_with_b
 join_front first segment [] = refl
 join_front first segment (next ∷ rest) = append_assoc first (slash ∷ segment) (slash ∷ join_with_byte slash (next ∷ rest))
 
-below_joined : (first : List ℕ) (rest : List (List (List ℕ))) → has_bytes first ≡ true → all_below first rest ≡ join_with_byte slash (first ∷ map (local_segment false) rest)
+below_joined : (first : List ℕ) (rest : List Segment) → has_bytes first ≡ true → all_below first rest ≡ join_with_byte slash (first ∷ map (λ segment. segment false) rest)
 below_joined first [] has = refl
-below_joined first (units ∷ rest) has =
-    let segment = local_segment false units in
-    ap (λ name. all_below name rest) (below_some first units has)
-    ∙ below_joined (first ++ slash ∷ segment) rest (has_more first segment slash)
-    ∙ join_front first segment (map (local_segment false) rest)
+below_joined first (segment ∷ rest) has =
+    let own = segment false in
+    ap (λ name. all_below name rest) (below_some first segment has)
+    ∙ below_joined (first ++ slash ∷ own) rest (has_more first own slash)
+    ∙ join_front first own (map (λ segment. segment false) rest)
 
 present_has : (segment : List ℕ) → segment ≢ [] → has_bytes segment ≡ true
 present_has [] present = absurd (present refl)
 present_has (b ∷ segment) present = refl
 
-pub all_joined : (segments : List (List (List ℕ))) → All IsSegment (local_segments segments) → all_below [] segments ≡ join_with_byte slash (local_segments segments)
+pub all_joined : (segments : List Segment) → All IsSegment (local_segments segments) → all_below [] segments ≡ join_with_byte slash (local_segments segments)
 all_joined [] all = refl
-all_joined (units ∷ rest) all =
-    let first = local_segment true units in
-    below_joined first rest (present_has first ((All-head IsSegment first (map (local_segment false) rest) all).inner).present)
+all_joined (segment ∷ rest) all =
+    let first = segment true in
+    below_joined first rest (present_has first ((All-head IsSegment first (map (λ segment. segment false) rest) all).inner).present)
 
 -- ---- as the code writes it
 
 pub front_steps : (rules : NameRules) (page : AddressText) (old scheme host : List ℕ) → rules.has_directories ≡ true
     → scheme ≡ all_below old (scheme_segment rules page) → host ≡ all_below scheme (host_segment rules page)
-    → all_below host (map (path_units rules) (drop rules.cut_dirs (dir_segments (dir_of page)))) ≡ all_below old (front_segments rules page)
+    → all_below host (map (path_segment rules) (drop rules.cut_dirs (dir_segments (dir_of page)))) ≡ all_below old (front_segments rules page)
 front_steps rules page old scheme host has es eh =
     let one = scheme_segment rules page in
     let two = host_segment rules page in
-    let dirs = map (path_units rules) (drop rules.cut_dirs (dir_segments (dir_of page))) in
+    let dirs = map (path_segment rules) (drop rules.cut_dirs (dir_segments (dir_of page))) in
     ap (λ n. all_below n dirs) (eh ∙ ap (λ n. all_below n two) es)
     ∙ sym (all_below-append (all_below old one) two dirs)
     ∙ sym (all_below-append old one (two ++ dirs))
@@ -181,38 +181,131 @@ last_are rules page =
     (marked_are (with_letters rules.chars) (query_mark rules.chars) (percent_decode (query_of page))
     (mark_byte rules.chars.is_windows 64 63 (omega arith, λ e. omega (arith, e), λ e. omega (arith, e)) (omega arith, λ e. omega (arith, e), λ e. omega (arith, e))))
 
-dirs_are : (rules : NameRules) (n : ℕ) (dir : List ℕ) → All AreUnits (map (path_units rules) (drop n (dir_segments dir)))
+-- ---- directories
+
+-- what a directory's segment is, first or after others
+record IsLocal (segment : Segment) : Type 0 where
+  is : (is_first : Bool) → IsSegment (segment is_first)
+  short : (is_first : Bool) → IsShort (segment is_first)
+  no_part : is_part (segment true) ≡ false
+
+units_local : (units : List (List ℕ)) → AreUnits units → IsLocal (λ is_first. local_segment is_first units)
+units_local units are =
+    record { is = λ is_first. local_segment_is is_first units are.all are.some; short = λ is_first. local_segment_short is_first units; no_part = first_no_part MAX_SEGMENT units }
+
+one_bytes : All IsSegmentByte (codes ".1")
+one_bytes = segment_bytes_from (codes ".1") refl
+
+dir_local : (has : Bool) (units : List (List ℕ)) → AreUnits units → IsLocal (dir_segment has units)
+dir_local has units are = record {
+  is = λ is_first. both is_first IsSegment (dotted_segment_is (segment_within is_first 198 units) (codes "1") (cut_is is_first) one_bytes (omega arith)) (own.is is_first);
+  short = λ is_first. both is_first IsShort
+      (let long = length-append (segment_within is_first 198 units) (codes ".1") in let room = length-segment_within is_first 198 units (omega arith) in omega (arith, long, room))
+      (own.short is_first);
+  no_part = both true (λ text. is_part text ≡ false)
+      (part_before_dot (segment_within true 198 units) (codes "1") (present_length (segment_within true 198 units) ((cut_is true).inner).present) (first_no_part 198 units))
+      own.no_part;
+}
+  where
+    own : IsLocal (λ is_first. local_segment is_first units)
+    own = units_local units are
+
+    cut_is : (is_first : Bool) → IsSegment (segment_within is_first 198 units)
+    cut_is is_first = segment_within_is is_first 198 units (omega arith) are.all are.some
+
+    both : (is_first : Bool) (P : List ℕ → Type 0) → P (segment_with (codes ".1") is_first units) → P (local_segment is_first units) → P (dir_segment has units is_first)
+    both is_first P with_one alone =
+        cond_both (has && is_original (local_segment is_first units)) (segment_with (codes ".1") is_first units) (local_segment is_first units) P (λ _. with_one) (λ _. alone)
+
+dirs_are : (rules : NameRules) (n : ℕ) (dir : List ℕ) → All IsLocal (map (path_segment rules) (drop n (dir_segments dir)))
 dirs_are rules n dir =
-    All-map AreUnits (path_units rules) (drop n (dir_segments dir))
-    (All-weaker (λ raw. has_bytes raw ≡ true) (λ raw. AreUnits (path_units rules raw)) (path_are rules) (drop n (dir_segments dir))
+    All-map IsLocal (path_segment rules) (drop n (dir_segments dir))
+    (All-weaker (λ raw. has_bytes raw ≡ true) (λ raw. IsLocal (path_segment rules raw)) (λ raw has. dir_local rules.has_originals (path_units rules raw) (path_are rules raw has)) (drop n (dir_segments dir))
     (All-drop (λ raw. has_bytes raw ≡ true) n (dir_segments dir) (filter_passes has_bytes (slice_split is_slash dir))))
 
-either_are : (b : Bool) (units : List (List ℕ)) → AreUnits units → All AreUnits (cond b (units ∷ []) [])
-either_are true units are = All-cons AreUnits units [] are (All-nil AreUnits)
-either_are false units are = All-nil AreUnits
+either_are : (b : Bool) (units : List (List ℕ)) → AreUnits units → All IsLocal (cond b ((λ is_first. local_segment is_first units) ∷ []) [])
+either_are true units are = All-cons IsLocal (λ is_first. local_segment is_first units) [] (units_local units are) (All-nil IsLocal)
+either_are false units are = All-nil IsLocal
 
-front_are : (rules : NameRules) (page : AddressText) → IsAddress page → All AreUnits (front_segments rules page)
+front_are : (rules : NameRules) (page : AddressText) → IsAddress page → All IsLocal (front_segments rules page)
 front_are rules page is =
-    let dirs = map (path_units rules) (drop rules.cut_dirs (dir_segments (dir_of page))) in
-    cond_both rules.has_directories (scheme_segment rules page ++ (host_segment rules page ++ dirs)) [] (All AreUnits)
-    (λ _. All-append AreUnits (scheme_segment rules page) (host_segment rules page ++ dirs)
+    let dirs = map (path_segment rules) (drop rules.cut_dirs (dir_segments (dir_of page))) in
+    cond_both rules.has_directories (scheme_segment rules page ++ (host_segment rules page ++ dirs)) [] (All IsLocal)
+    (λ _. All-append IsLocal (scheme_segment rules page) (host_segment rules page ++ dirs)
     (either_are rules.has_protocol (units_of (with_letters rules.chars) (scheme_text (scheme_of page))) (text_units (with_letters rules.chars) (scheme_text (scheme_of page)) (scheme_some (scheme_of page))))
-    (All-append AreUnits (host_segment rules page) dirs (either_are rules.has_host (host_units rules page) (host_are rules page is)) (dirs_are rules rules.cut_dirs (dir_of page))))
-    (λ _. All-nil AreUnits)
+    (All-append IsLocal (host_segment rules page) dirs (either_are rules.has_host (host_units rules page) (host_are rules page is)) (dirs_are rules rules.cut_dirs (dir_of page))))
+    (λ _. All-nil IsLocal)
 
-locals_are : (segments : List (List (List ℕ))) → All AreUnits segments → All IsSegment (local_segments segments)
+locals_are : (segments : List Segment) → All IsLocal segments → All IsSegment (local_segments segments)
 locals_are [] all = All-nil IsSegment
 locals_are (first ∷ others) all =
-    let own = All-head AreUnits first others all in
-    All-cons IsSegment (local_segment true first) (map (local_segment false) others) (local_segment_is true first own.all own.some)
-    (All-map IsSegment (local_segment false) others
-    (All-weaker AreUnits (λ us. IsSegment (local_segment false us)) (λ us are. local_segment_is false us are.all are.some) others (All-tail AreUnits first others all)))
+    All-cons IsSegment (first true) (map (λ segment. segment false) others) ((All-head IsLocal first others all).is true)
+    (All-map IsSegment (λ segment. segment false) others
+    (All-weaker IsLocal (λ segment. IsSegment (segment false)) (λ segment are. are.is false) others (All-tail IsLocal first others all)))
 
-locals_are_short : (segments : List (List (List ℕ))) → All IsShort (local_segments segments)
-locals_are_short [] = All-nil IsShort
-locals_are_short (first ∷ others) =
-    All-cons IsShort (local_segment true first) (map (local_segment false) others) (local_segment_short true first)
-    (All-map IsShort (local_segment false) others (λ k d below. local_segment_short false (get_or others k d)))
+locals_are_short : (segments : List Segment) → All IsLocal segments → All IsShort (local_segments segments)
+locals_are_short [] all = All-nil IsShort
+locals_are_short (first ∷ others) all =
+    All-cons IsShort (first true) (map (λ segment. segment false) others) ((All-head IsLocal first others all).short true)
+    (All-map IsShort (λ segment. segment false) others
+    (All-weaker IsLocal (λ segment. IsShort (segment false)) (λ segment are. are.short false) others (All-tail IsLocal first others all)))
+
+-- how many directories a name has in front of those of the path
+abbrev pub head_count : NameRules → ℕ
+head_count rules = cond rules.has_directories (cond rules.has_protocol 1 0 + cond rules.has_host 1 0) 0
+
+-- directories of which those in front are there, and no other ends as the name of a body as it came
+pub record LeaveFree (rules : NameRules) (fronts : List (List ℕ)) : Type 0 where
+  pub heads : head_count rules ≤ length fronts
+  pub ends : (i : ℕ) → head_count rules ≤ i → i < length fronts → EndsOtherwise (get_or fronts i [])
+
+-- the segment doesn't end so
+abbrev LeavesFree : Segment → Type 0
+LeavesFree segment = (is_first : Bool) → EndsOtherwise (segment is_first)
+
+after_ends : (heads dirs : List Segment) → All LeavesFree dirs → (i : ℕ) → length heads ≤ i → i < length (map (λ segment. segment false) (heads ++ dirs)) → EndsOtherwise (get_or (map (λ segment. segment false) (heads ++ dirs)) i [])
+after_ends [] [] all i long below = absurd (omega (arith, below))
+after_ends [] (dir ∷ dirs) all zero long below = (All-head LeavesFree dir dirs all) false
+after_ends [] (dir ∷ dirs) all (suc i) long below = after_ends [] dirs (All-tail LeavesFree dir dirs all) i (omega arith) (omega (arith, below))
+after_ends (head ∷ heads) dirs all zero long below = absurd (omega (arith, long))
+after_ends (head ∷ heads) dirs all (suc i) long below = after_ends heads dirs all i (omega (arith, long)) (omega (arith, below))
+
+local_ends : (heads dirs : List Segment) → All LeavesFree dirs → (i : ℕ) → length heads ≤ i → i < length (local_segments (heads ++ dirs)) → EndsOtherwise (get_or (local_segments (heads ++ dirs)) i [])
+local_ends [] [] all i long below = absurd (omega (arith, below))
+local_ends [] (dir ∷ dirs) all zero long below = (All-head LeavesFree dir dirs all) true
+local_ends [] (dir ∷ dirs) all (suc i) long below = after_ends [] dirs (All-tail LeavesFree dir dirs all) i (omega arith) (omega (arith, below))
+local_ends (head ∷ heads) dirs all zero long below = absurd (omega (arith, long))
+local_ends (head ∷ heads) dirs all (suc i) long below = after_ends heads dirs all i (omega (arith, long)) (omega (arith, below))
+
+length-local_segments : (segments : List Segment) → length (local_segments segments) ≡ length segments
+length-local_segments [] = refl
+length-local_segments (first ∷ others) = ap suc (length-map others (λ segment. segment false))
+
+either_long : (b : Bool) (segment : Segment) → length (cond b (segment ∷ []) []) ≡ cond b 1 0
+either_long true segment = refl
+either_long false segment = refl
+
+front_leaves : (rules : NameRules) (page : AddressText) → rules.has_originals ≡ true → LeaveFree rules (local_segments (front_segments rules page))
+front_leaves rules page on =
+    let scheme = scheme_segment rules page in
+    let host = host_segment rules page in
+    let raws = drop rules.cut_dirs (dir_segments (dir_of page)) in
+    let dirs = map (path_segment rules) raws in
+    let free : All LeavesFree dirs = All-map LeavesFree (path_segment rules) raws (λ k d below is_first. dir_ends rules.has_originals is_first (path_units rules (get_or raws k d)) on) in
+    cond_both rules.has_directories (scheme ++ (host ++ dirs)) [] (λ fronts. LeaveFree rules (local_segments fronts))
+    (λ has. subst (λ fronts. LeaveFree rules (local_segments fronts)) (append_assoc scheme host dirs)
+    (let count : head_count rules ≡ cond rules.has_protocol 1 0 + cond rules.has_host 1 0 = cond-true rules.has_directories (cond rules.has_protocol 1 0 + cond rules.has_host 1 0) 0 has in
+    let one = either_long rules.has_protocol (λ is_first. local_segment is_first (units_of (with_letters rules.chars) (scheme_text (scheme_of page)))) in
+    let two = either_long rules.has_host (λ is_first. local_segment is_first (host_units rules page)) in
+    let both = length-append scheme host in
+    let long = length-append (scheme ++ host) dirs in
+    let all = length-local_segments ((scheme ++ host) ++ dirs) in
+    record {
+      heads = omega (arith, count, one, two, both, long, all);
+      ends = λ i more below. local_ends (scheme ++ host) dirs free i (omega (arith, more, count, one, two, both)) below;
+    }))
+    (λ off. (let count : head_count rules ≡ 0 = cond-false rules.has_directories (cond rules.has_protocol 1 0 + cond rules.has_host 1 0) 0 off in
+    record { heads = omega (arith, count); ends = λ i more below. absurd (omega (arith, below)) }))
 
 -- the last segment of a page's name
 last_within : ℕ → NameRules → AddressText → List ℕ
@@ -227,16 +320,15 @@ unfolding last_within
 length-last_within room rules page wide = length-segment_within (is_alone (front_segments rules page)) room (last_units rules page) wide
 
 -- a name to which the last segment is added
-below_last : (room : ℕ) (fronts : List (List (List ℕ))) (last : List (List ℕ)) → All AreUnits fronts
+below_last : (room : ℕ) (fronts : List Segment) (last : List (List ℕ)) → All IsLocal fronts
     → below_within room (join_with_byte slash (local_segments fronts)) last ≡ join_with_byte slash (local_segments fronts ++ segment_within (is_alone fronts) room last ∷ [])
 below_last room [] last are = refl
 below_last room (front ∷ fronts) last are =
-    let first = local_segment true front in
-    let rest = map (local_segment false) fronts in
+    let first = front true in
+    let rest = map (λ segment. segment false) fronts in
     let name = join_with_byte slash (first ∷ rest) in
     let segment = segment_within false room last in
-    let own = All-head AreUnits front fronts are in
-    let has = has_joined first rest (present_has first ((local_segment_is true front own.all own.some).inner).present) in
+    let has = has_joined first rest (present_has first (((All-head IsLocal front fronts are).is true).inner).present) in
     ap (λ b. cond b (name ++ slash ∷ []) [] ++ segment_within (not b) room last) has
     ∙ append_assoc name (slash ∷ []) segment
     ∙ sym (join_push first rest segment)
@@ -289,8 +381,8 @@ made_of (first ∷ mids) last all is =
 
 -- ---- plain names with their endings
 
--- what a plain name is: directories, and a last segment of no more bytes than this; none of a part
-pub record IsPlain (room : ℕ) (name : List ℕ) : Type 0 where
+-- what a plain name is: directories, and a last segment of no more bytes than this; none of a part, nor in the way of a body as it came
+pub record IsPlain (rules : NameRules) (room : ℕ) (name : List ℕ) : Type 0 where
   pub fronts : List (List ℕ)
   pub last : List ℕ
   pub is : name ≡ join_with_byte slash (fronts ++ last ∷ [])
@@ -298,35 +390,38 @@ pub record IsPlain (room : ℕ) (name : List ℕ) : Type 0 where
   pub last_is : IsSegment last
   pub fronts_short : All IsShort fronts
   pub last_short : length last ≤ room
+  pub leaves : rules.has_originals ≡ true → LeaveFree rules fronts
   pub no_part : is_part name ≡ false
 
-joined_no_part : (fronts : List (List (List ℕ))) (room : ℕ) (last : List (List ℕ)) → is_part (join_with_byte slash (local_segments fronts ++ segment_within (is_alone fronts) room last ∷ [])) ≡ false
-joined_no_part [] room last = first_no_part room last
-joined_no_part (front ∷ fronts) room last =
-    next (local_segment true front) (map (local_segment false) fronts ++ segment_within false room last ∷ []) (first_no_part MAX_SEGMENT front)
+joined_no_part : (fronts : List Segment) (room : ℕ) (last : List (List ℕ)) → All IsLocal fronts → is_part (join_with_byte slash (local_segments fronts ++ segment_within (is_alone fronts) room last ∷ [])) ≡ false
+joined_no_part [] room last are = first_no_part room last
+joined_no_part (front ∷ fronts) room last are =
+    next (front true) (map (λ segment. segment false) fronts ++ segment_within false room last ∷ []) (All-head IsLocal front fronts are).no_part
   where
     next : (first : List ℕ) (rest : List (List ℕ)) → is_part first ≡ false → is_part (join_with_byte slash (first ∷ rest)) ≡ false
     next first [] none = none
     next first (other ∷ rest) none = part_before_slash first (join_with_byte slash (other ∷ rest)) none
 
-within_is : (room : ℕ) (rules : NameRules) (page : AddressText) → 6 ≤ room → IsAddress page → IsPlain room (plain_name_within room rules page)
+within_is : (room : ℕ) (rules : NameRules) (page : AddressText) → 6 ≤ room → IsAddress page → IsPlain rules room (plain_name_within room rules page)
 unfolding plain_name_within segments_within last_within
 within_is room rules page wide is =
     let fronts = front_segments rules page in
+    let are = front_are rules page is in
     record {
       fronts = local_segments fronts;
       last = last_within room rules page;
       is = refl;
-      fronts_are = locals_are fronts (front_are rules page is);
+      fronts_are = locals_are fronts are;
       last_is = last_segment_is room rules page wide;
-      fronts_short = locals_are_short fronts;
+      fronts_short = locals_are_short fronts are;
       last_short = length-last_within room rules page wide;
-      no_part = joined_no_part fronts room (last_units rules page);
+      leaves = front_leaves rules page;
+      no_part = joined_no_part fronts room (last_units rules page) are;
     }
 
 -- a plain name isn't empty
-plain_some : (room : ℕ) (name : List ℕ) → IsPlain room name → 0 < length name
-plain_some room name plain = some plain.fronts plain.last name (plain.last_is.inner).present plain.is
+plain_some : (rules : NameRules) (room : ℕ) (name : List ℕ) → IsPlain rules room name → 0 < length name
+plain_some rules room name plain = some plain.fronts plain.last name (plain.last_is.inner).present plain.is
   where
     some : (fronts : List (List ℕ)) (last name : List ℕ) → last ≢ [] → name ≡ join_with_byte slash (fronts ++ last ∷ []) → 0 < length name
     some [] [] name present is = absurd (present refl)
@@ -335,7 +430,7 @@ plain_some room name plain = some plain.fronts plain.last name (plain.last_is.in
         let long = length-append (join_with_byte slash (first ∷ mids)) (slash ∷ last) in
         omega (arith, ap length (is ∙ join_push first mids last), long)
 
-onto_last : (fronts : List (List ℕ)) (last suffix : List ℕ) → join_with_byte slash (fronts ++ last ∷ []) ++ suffix ≡ join_with_byte slash (fronts ++ (last ++ suffix) ∷ [])
+pub onto_last : (fronts : List (List ℕ)) (last suffix : List ℕ) → join_with_byte slash (fronts ++ last ∷ []) ++ suffix ≡ join_with_byte slash (fronts ++ (last ++ suffix) ∷ [])
 onto_last [] last suffix = refl
 onto_last (first ∷ mids) last suffix =
     ap (λ x. x ++ suffix) (join_push first mids last)
@@ -343,8 +438,8 @@ onto_last (first ∷ mids) last suffix =
     ∙ sym (join_push first mids (last ++ suffix))
 
 -- a name to which an ending is added
-with_ending : (room : ℕ) (name rest : List ℕ) → All IsSegmentByte (46 ∷ rest) → 1 ≤ length rest → IsPlain room name → IsPlain (room + length (46 ∷ rest)) (name ++ 46 ∷ rest)
-with_ending room name rest bytes some plain =
+with_ending : (rules : NameRules) (room : ℕ) (name rest : List ℕ) → All IsSegmentByte (46 ∷ rest) → 1 ≤ length rest → IsPlain rules room name → IsPlain rules (room + length (46 ∷ rest)) (name ++ 46 ∷ rest)
+with_ending rules room name rest bytes some plain =
     let ending = 46 ∷ rest in
     let long = length-append plain.last ending in
     let short = plain.last_short in
@@ -356,7 +451,8 @@ with_ending room name rest bytes some plain =
       last_is = dotted_segment_is plain.last rest plain.last_is bytes some;
       fronts_short = plain.fronts_short;
       last_short = omega (arith, long, short);
-      no_part = part_before_dot name rest (plain_some room name plain) plain.no_part;
+      leaves = plain.leaves;
+      no_part = part_before_dot name rest (plain_some rules room name plain) plain.no_part;
     }
 
 html_bytes : All IsSegmentByte (codes ".html")
@@ -365,39 +461,45 @@ html_bytes = segment_bytes_from (codes ".html") refl
 css_bytes : All IsSegmentByte (codes ".css")
 css_bytes = segment_bytes_from (codes ".css") refl
 
-one_bytes : All IsSegmentByte (codes ".1")
-one_bytes = segment_bytes_from (codes ".1") refl
-
-plain_is : (rules : NameRules) (page : AddressText) → IsAddress page → IsPlain MAX_SEGMENT (plain_name_of rules page)
+plain_is : (rules : NameRules) (page : AddressText) → IsAddress page → IsPlain rules MAX_SEGMENT (plain_name_of rules page)
 plain_is rules page is =
     let plain = plain_name_within MAX_SEGMENT rules page in
-    cond_both (rules.has_originals && is_original plain) (plain_name_with (codes ".1") rules page) plain (IsPlain MAX_SEGMENT)
-    (λ _. with_ending 198 (plain_name_within 198 rules page) (codes "1") one_bytes (omega arith) (within_is 198 rules page (omega arith) is))
+    cond_both (rules.has_originals && is_original plain) (plain_name_with (codes ".1") rules page) plain (IsPlain rules MAX_SEGMENT)
+    (λ _. with_ending rules 198 (plain_name_within 198 rules page) (codes "1") one_bytes (omega arith) (within_is 198 rules page (omega arith) is))
     (λ _. within_is MAX_SEGMENT rules page (omega arith) is)
 
-ended_is : (rules : NameRules) (kind : BodyKind) (page : AddressText) → IsAddress page → IsPlain MAX_SEGMENT (ended_name rules kind page)
+ended_is : (rules : NameRules) (kind : BodyKind) (page : AddressText) → IsAddress page → IsPlain rules MAX_SEGMENT (ended_name rules kind page)
 ended_is rules Html page is =
     let plain = plain_name_of rules page in
     let added = plain_name_within 195 rules page ++ codes ".html" in
-    cond_both (shows_kind Html plain) plain added (IsPlain MAX_SEGMENT) (λ _. plain_is rules page is)
-    (λ _. with_ending 195 (plain_name_within 195 rules page) (codes "html") html_bytes (omega arith) (within_is 195 rules page (omega arith) is))
+    cond_both (shows_kind Html plain) plain added (IsPlain rules MAX_SEGMENT) (λ _. plain_is rules page is)
+    (λ _. with_ending rules 195 (plain_name_within 195 rules page) (codes "html") html_bytes (omega arith) (within_is 195 rules page (omega arith) is))
 ended_is rules Sheet page is =
     let plain = plain_name_of rules page in
     let added = plain_name_within 196 rules page ++ codes ".css" in
-    cond_both (shows_kind Sheet plain) plain added (IsPlain MAX_SEGMENT) (λ _. plain_is rules page is)
-    (λ _. with_ending 196 (plain_name_within 196 rules page) (codes "css") css_bytes (omega arith) (within_is 196 rules page (omega arith) is))
+    cond_both (shows_kind Sheet plain) plain added (IsPlain rules MAX_SEGMENT) (λ _. plain_is rules page is)
+    (λ _. with_ending rules 196 (plain_name_within 196 rules page) (codes "css") css_bytes (omega arith) (within_is 196 rules page (omega arith) is))
 ended_is rules Other page is = plain_is rules page is
 
 -- ---- numbered names
 
+-- the name is such directories and a last segment
+pub record IsParted (rules : NameRules) (name : List ℕ) : Type 0 where
+  pub fronts : List (List ℕ)
+  pub last : List ℕ
+  pub is : name ≡ join_with_byte slash (fronts ++ last ∷ [])
+  pub all : All IsSegment (fronts ++ last ∷ [])
+  pub leaves : rules.has_originals ≡ true → LeaveFree rules fronts
+
 -- what each numbered plain name has
-pub record IsNumbered (has : Bool) (name : List ℕ) : Type 0 where
+pub record IsNumbered (rules : NameRules) (has : Bool) (name : List ℕ) : Type 0 where
   pub made : IsMade name
   pub short : HasShortSegmentsBy has name
   pub no_part : IsNoPart name
+  pub parted : IsParted rules name
 
-plain_short : (name : List ℕ) → IsPlain MAX_SEGMENT name → All IsShort (slice_split is_slash name)
-plain_short name plain =
+plain_short : (rules : NameRules) (name : List ℕ) → IsPlain rules MAX_SEGMENT name → All IsShort (slice_split is_slash name)
+plain_short rules name plain =
     let fronts = plain.fronts in
     let last = plain.last in
     subst (λ x. All IsShort (slice_split is_slash x)) (sym plain.is)
@@ -409,15 +511,22 @@ numbered_no_part : (stem ending : List ℕ) (k : ℕ) → is_part (stem ++ endin
 numbered_no_part [] ending k none = dot_no_part (decimal k ++ ending) (decimal_first k ending)
 numbered_no_part (b ∷ stem) ending k none = part_before_dot (b ∷ stem) (decimal k ++ ending) (omega arith) (front_no_part (b ∷ stem) ending none)
 
-numbered_is : (has : Bool) (name : List ℕ) (k : ℕ) → IsPlain MAX_SEGMENT name → IsNumbered has (numbered_by has name k)
-numbered_is has name zero plain =
+numbered_is : (rules : NameRules) (has : Bool) (name : List ℕ) (k : ℕ) → IsPlain rules MAX_SEGMENT name → IsNumbered rules has (numbered_by has name k)
+numbered_is rules has name zero plain =
     let own = numbered_name-zero has name in
     record {
       made = subst IsMade (sym (own ∙ plain.is)) (made_of plain.fronts plain.last plain.fronts_are plain.last_is);
-      short = record { plain = name; number = 0; is = refl; short = plain_short name plain };
+      short = record { plain = name; number = 0; is = refl; short = plain_short rules name plain };
       no_part = subst IsNoPart (sym own) plain.no_part;
+      parted = record {
+        fronts = plain.fronts;
+        last = plain.last;
+        is = own ∙ plain.is;
+        all = All-append IsSegment plain.fronts (plain.last ∷ []) plain.fronts_are (All-cons IsSegment plain.last [] plain.last_is (All-nil IsSegment));
+        leaves = plain.leaves;
+      };
     }
-numbered_is has name (suc k) plain =
+numbered_is rules has name (suc k) plain =
     let stem = stem_of has name in
     let ending = ending_of has name in
     let whole = stem_ending has name in
@@ -427,31 +536,38 @@ numbered_is has name (suc k) plain =
     let last_is = numbered_segment_is cut.front ending (suc k) (subst IsSegment cut.is plain.last_is) in
     record {
       made = subst IsMade (sym (e ∙ cut.put number)) (made_of plain.fronts (cut.front ++ number) plain.fronts_are last_is);
-      short = record { plain = name; number = suc k; is = refl; short = plain_short name plain };
+      short = record { plain = name; number = suc k; is = refl; short = plain_short rules name plain };
       no_part = subst IsNoPart (sym e) (numbered_no_part stem ending (suc k) (subst (λ x. is_part x ≡ false) (sym whole) plain.no_part));
+      parted = record {
+        fronts = plain.fronts;
+        last = cut.front ++ number;
+        is = e ∙ cut.put number;
+        all = All-append IsSegment plain.fronts ((cut.front ++ number) ∷ []) plain.fronts_are (All-cons IsSegment (cut.front ++ number) [] last_is (All-nil IsSegment));
+        leaves = plain.leaves;
+      };
     }
 
 -- ---- all names of a list
 
 -- each plain name is one
-pub plain_are : (rules : NameRules) (pages : List AddressText) → All IsAddress pages → All (IsPlain MAX_SEGMENT) (map (plain_name_of rules) pages)
-plain_are rules pages addresses = All-map (IsPlain MAX_SEGMENT) (plain_name_of rules) pages (λ i page below. plain_is rules (get_or pages i page) (addresses i page below))
+pub plain_are : (rules : NameRules) (pages : List AddressText) → All IsAddress pages → All (IsPlain rules MAX_SEGMENT) (map (plain_name_of rules) pages)
+plain_are rules pages addresses = All-map (IsPlain rules MAX_SEGMENT) (plain_name_of rules) pages (λ i page below. plain_is rules (get_or pages i page) (addresses i page below))
 
-pub ended_are : (rules : NameRules) (pages : List AddressText) (kinds : List BodyKind) → All IsAddress pages → All (IsPlain MAX_SEGMENT) (ended_names rules pages kinds)
-ended_are rules [] kinds all = All-nil (IsPlain MAX_SEGMENT)
+pub ended_are : (rules : NameRules) (pages : List AddressText) (kinds : List BodyKind) → All IsAddress pages → All (IsPlain rules MAX_SEGMENT) (ended_names rules pages kinds)
+ended_are rules [] kinds all = All-nil (IsPlain rules MAX_SEGMENT)
 ended_are rules (page ∷ pages) [] all =
-    All-cons (IsPlain MAX_SEGMENT) (ended_name rules Other page) (ended_names rules pages []) (ended_is rules Other page (All-head IsAddress page pages all)) (ended_are rules pages [] (All-tail IsAddress page pages all))
+    All-cons (IsPlain rules MAX_SEGMENT) (ended_name rules Other page) (ended_names rules pages []) (ended_is rules Other page (All-head IsAddress page pages all)) (ended_are rules pages [] (All-tail IsAddress page pages all))
 ended_are rules (page ∷ pages) (kind ∷ kinds) all =
-    All-cons (IsPlain MAX_SEGMENT) (ended_name rules kind page) (ended_names rules pages kinds) (ended_is rules kind page (All-head IsAddress page pages all)) (ended_are rules pages kinds (All-tail IsAddress page pages all))
+    All-cons (IsPlain rules MAX_SEGMENT) (ended_name rules kind page) (ended_names rules pages kinds) (ended_is rules kind page (All-head IsAddress page pages all)) (ended_are rules pages kinds (All-tail IsAddress page pages all))
 
 -- what each numbered plain name has, the names have
-pub all_names : (P : List ℕ → Type 0) (has : Bool) (plain names : List (List ℕ)) → IsNamingBy has plain names → All (IsPlain MAX_SEGMENT) plain → ((name : List ℕ) → IsNumbered has name → P name) → All P names
-all_names P has plain names naming are each i d below =
+pub all_names : (rules : NameRules) (P : List ℕ → Type 0) (has : Bool) (plain names : List (List ℕ)) → IsNamingBy has plain names → All (IsPlain rules MAX_SEGMENT) plain → ((name : List ℕ) → IsNumbered rules has name → P name) → All P names
+all_names rules P has plain names naming are each i d below =
     let count = naming.count in
     let within : i < length plain = omega (arith, below, count) in
     let at = naming.each i within in
     let own = get_or plain i [] in
-    subst P (sym (same_read names i d [] below ∙ at.is)) (each (numbered_by has own at.number) (numbered_is has own at.number (are i [] within)))
+    subst P (sym (same_read names i d [] below ∙ at.is)) (each (numbered_by has own at.number) (numbered_is rules has own at.number (are i [] within)))
   where
     same_read : (xs : List (List ℕ)) (k : ℕ) (a b : List ℕ) → k < length xs → get_or xs k a ≡ get_or xs k b
     same_read [] k a b below = absurd (omega arith)

@@ -1,16 +1,16 @@
 -- Segments that are joined and split again, and numbers after them.
-use Rattle.std.proofs.Common.{zero, suc, ◌≡◌, ◌≢◌, ℕ, ◌+◌, ◌≤◌, ◌<◌, ◌/◌, ◌%◌, ◌==◌, nat_lt, Bool, false, true, not, ◌&&◌, Option, None, List, [], ◌∷◌, ◌++◌, length, map, get_or, codes, All, refl, sym, ap, ◌∙◌, arith, append_assoc}
-use Rattle.std.proofs.lemmas.Bool.{cond_both, both_ways, ne_eqb, lt-ltb}
+use Rattle.std.proofs.Common.{zero, suc, ◌≡◌, ◌≢◌, ℕ, ◌+◌, ◌≤◌, ◌<◌, ◌/◌, ◌%◌, ◌==◌, nat_lt, Bool, false, true, not, ◌&&◌, Option, None, List, [], ◌∷◌, ◌++◌, length, map, get_or, codes, All, refl, sym, ap, ◌∙◌, inl, inr, arith, append_assoc}
+use Rattle.std.proofs.lemmas.Bool.{cond_both, cases_Bool, both_ways, ne_eqb, lt-ltb}
 use Rattle.std.proofs.lemmas.List.{length-append}
 use Rattle.std.proofs.lemmas.List.Elements.{All-nil, All-cons, All-head, All-tail, All-append, All-weaker}
-use Rattle.std.proofs.lemmas.List.Splits.{slice_split_none, slice_split_at}
+use Rattle.std.proofs.lemmas.List.Splits.{slice_split_none, slice_split_at, slice_split-cons_yes, slice_split-cons_no, length-slice_split}
 use Rattle.std.proofs.lemmas.Iterator.{YieldsList}
 use Rattle.std.proofs.lemmas.Iterator.Consumers.{YieldsList-end}
 use Rattle.std.specs.Iterator.{Yields}
 use Rattle.std.specs.Fmt.{decimal, digits, digits_onto, digit_glyph}
 use Rattle.std.proofs.lemmas.Bool.Decides.{nat_tests}
 use Rattle.std.proofs.lemmas.List.Sums.{AllPass-from_list_all}
-use Rattle.std.specs.List.{slice_split, list_all, join_with_byte}
+use Rattle.std.specs.List.{slice_split, onto_first, list_all, join_with_byte}
 use Rattle.local_names.specs.PlainNames.{slash, is_slash}
 use Rattle.local_names.specs.LocalNames.{IsUncontrolled}
 use Rattle.local_names.proofs.EndingLaws.{NoSlash, no_slash_inside}
@@ -30,6 +30,27 @@ split_apart first (next ∷ rest) all =
     slice_split_at is_slash first slash (join_with_byte slash (next ∷ rest)) (All-head (All (λ byte. is_slash byte ≡ false)) first (next ∷ rest) all) refl
     ∙ ap (λ parts. first ∷ parts) (split_apart next rest (All-tail (All (λ byte. is_slash byte ≡ false)) first (next ∷ rest) all))
 
+-- two texts at a slash
+pub split_some : (text : List ℕ) → 0 < length (slice_split is_slash text)
+split_some text = omega (arith, length-slice_split is_slash text)
+
+pub split_both : (xs ys : List ℕ) → slice_split is_slash (xs ++ slash ∷ ys) ≡ slice_split is_slash xs ++ slice_split is_slash ys
+split_both [] ys = slice_split-cons_yes is_slash slash ys refl
+split_both (x ∷ xs) ys =
+    elim (cases_Bool (is_slash x)) [
+      | inl at ↦ (
+          slice_split-cons_yes is_slash x (xs ++ slash ∷ ys) at ∙ ap (λ parts. [] ∷ parts) (split_both xs ys)
+          ∙ ap (λ parts. parts ++ slice_split is_slash ys) (sym (slice_split-cons_yes is_slash x xs at)))
+      | inr off ↦ (
+          slice_split-cons_no is_slash x (xs ++ slash ∷ ys) off ∙ ap (onto_first x) (split_both xs ys)
+          ∙ onto_append (slice_split is_slash xs) (slice_split is_slash ys) (split_some xs)
+          ∙ ap (λ parts. parts ++ slice_split is_slash ys) (sym (slice_split-cons_no is_slash x xs off)))
+    ]
+  where
+    onto_append : (parts others : List (List ℕ)) → 0 < length parts → onto_first x (parts ++ others) ≡ onto_first x parts ++ others
+    onto_append [] others some = absurd (omega arith)
+    onto_append (part ∷ parts) others some = refl
+
 pub split_joined : (first : List ℕ) (rest : List (List ℕ)) → All (All IsSegmentByte) (first ∷ rest) → slice_split is_slash (join_with_byte slash (first ∷ rest)) ≡ first ∷ rest
 split_joined first rest all = split_apart first rest (All-weaker (All IsSegmentByte) (All (λ byte. is_slash byte ≡ false)) no_slashes (first ∷ rest) all)
 
@@ -44,7 +65,7 @@ pub record IsLast (fronts : List (List ℕ)) (last stem ending : List ℕ) : Typ
   pub is : last ≡ front ++ ending
   pub put : (rest : List ℕ) → stem ++ rest ≡ join_with_byte slash (fronts ++ (front ++ rest) ∷ [])
 
-after_slash : (first last stem ending : List ℕ) → first ++ slash ∷ last ≡ stem ++ ending → NoSlash ending → (front : List ℕ) × (last ≡ front ++ ending) × (stem ≡ first ++ slash ∷ front)
+pub after_slash : (first last stem ending : List ℕ) → first ++ slash ∷ last ≡ stem ++ ending → NoSlash ending → (front : List ℕ) × (last ≡ front ++ ending) × (stem ≡ first ++ slash ∷ front)
 after_slash [] last [] ending e none = absurd (starts ending last (sym e) none)
   where
     starts : (ending last : List ℕ) → ending ≡ slash ∷ last → NoSlash ending → ⊥
@@ -123,7 +144,7 @@ pub decimal_present : (n : ℕ) → 1 ≤ length (decimal n)
 unfolding digits
 decimal_present n = some_digit 63 n
 
-present_length : (xs : List ℕ) → xs ≢ [] → 1 ≤ length xs
+pub present_length : (xs : List ℕ) → xs ≢ [] → 1 ≤ length xs
 present_length [] present = absurd (present refl)
 present_length (x ∷ xs) present = omega arith
 

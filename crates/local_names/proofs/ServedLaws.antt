@@ -15,11 +15,11 @@ use Rattle.percent_encoding.proofs.PercentLemmas.{percent_decode-nil, percent_de
 use Rattle.address.specs.Address.{AddressText, IsAddress, dir_of, file_of, query_of}
 use Rattle.local_names.specs.declared.plain_name.TheConstants.{MAX_SEGMENT}
 use Rattle.local_names.specs.Rules.{usual_chars, usual_rules}
-use Rattle.local_names.specs.PlainNames.{slash, is_slash, has_bytes, with_letters, units_of, marked_units, query_mark, local_segment, host_units, dir_segments, path_units, file_units, last_units, segments_within, plain_name_within, plain_name_of}
+use Rattle.local_names.specs.PlainNames.{slash, is_slash, has_bytes, with_letters, units_of, marked_units, query_mark, local_segment, host_units, dir_segments, path_units, path_segment, file_units, last_units, segments_within, plain_name_within, plain_name_of}
 use Rattle.local_names.specs.Names.{numbered_name, IsFree, IsFirstFreeBy, IsNaming}
 use Rattle.local_names.specs.Served.{path_of, index_in, served_segments, IsServable, HasServablePath, AreServed}
 use Rattle.local_names.proofs.UnitLaws.{IsSegmentByte, controlled_not, local_segment_kept}
-use Rattle.local_names.proofs.SegmentLaws.{split_apart}
+use Rattle.local_names.proofs.SegmentLaws.{split_apart, split_some, split_both}
 
 -- ---- decoding at a slash
 
@@ -82,9 +82,6 @@ split_decoded : (parts : List (List ℕ)) → 0 < length parts → All IsApart (
 split_decoded [] some all = absurd (omega arith)
 split_decoded (first ∷ rest) some all = ap (slice_split is_slash) (decode_joined first rest) ∙ split_apart (percent_decode first) (map percent_decode rest) all
 
-split_some : (text : List ℕ) → 0 < length (slice_split is_slash text)
-split_some text = omega (arith, length-slice_split is_slash text)
-
 decoded_segments : (path : List ℕ) → All IsServable (map percent_decode (dir_segments path)) → filter has_bytes (slice_split is_slash (percent_decode path)) ≡ map percent_decode (dir_segments path)
 decoded_segments path all =
     let parts = slice_split is_slash path in
@@ -94,22 +91,8 @@ decoded_segments path all =
 
 -- ---- directory and file
 
-onto_append : (x : ℕ) (parts : List (List ℕ)) (last : List ℕ) → 0 < length parts → onto_first x (parts ++ last ∷ []) ≡ onto_first x parts ++ last ∷ []
-onto_append x [] last some = absurd (omega arith)
-onto_append x (part ∷ parts) last some = refl
-
 split_tail : (xs file : List ℕ) → IsApart file → slice_split is_slash (xs ++ slash ∷ file) ≡ slice_split is_slash xs ++ file ∷ []
-split_tail [] file none = slice_split-cons_yes is_slash slash file refl ∙ ap (λ parts. [] ∷ parts) (slice_split_none is_slash file none)
-split_tail (x ∷ xs) file none =
-    elim (cases_Bool (is_slash x)) [
-      | inl at ↦ (
-          slice_split-cons_yes is_slash x (xs ++ slash ∷ file) at ∙ ap (λ parts. [] ∷ parts) (split_tail xs file none)
-          ∙ ap (λ parts. parts ++ file ∷ []) (sym (slice_split-cons_yes is_slash x xs at)))
-      | inr off ↦ (
-          slice_split-cons_no is_slash x (xs ++ slash ∷ file) off ∙ ap (onto_first x) (split_tail xs file none)
-          ∙ onto_append x (slice_split is_slash xs) file (split_some xs)
-          ∙ ap (λ parts. parts ++ file ∷ []) (sym (slice_split-cons_no is_slash x xs off)))
-    ]
+split_tail xs file none = split_both xs file ∙ ap (λ parts. slice_split is_slash xs ++ parts) (slice_split_none is_slash file none)
 
 last_apart : (xs : List ℕ) → 0 < length xs → get_or xs (length xs - 1) 0 ≡ slash → xs ≡ take (length xs - 1) xs ++ slash ∷ []
 last_apart xs some ends =
@@ -146,10 +129,10 @@ servable_bytes text is = λ k d below. (let shown = controlled_not _ (is.bytes k
 servable_kept : (text : List ℕ) → IsServable text → local_segment false (units_of usual_chars text) ≡ text
 servable_kept text is = local_segment_kept text is.utf8 (servable_bytes text is) is.named is.short
 
-dirs_kept : (raws : List (List ℕ)) → All IsServable (map percent_decode raws) → map (local_segment false) (map (path_units usual_rules) raws) ≡ map percent_decode raws
+dirs_kept : (raws : List (List ℕ)) → All IsServable (map percent_decode raws) → map (λ segment. segment false) (map (path_segment usual_rules) raws) ≡ map percent_decode raws
 dirs_kept [] all = refl
 dirs_kept (raw ∷ raws) all =
-    ap (λ segment. segment ∷ map (local_segment false) (map (path_units usual_rules) raws)) (servable_kept (percent_decode raw) (All-head IsServable (percent_decode raw) (map percent_decode raws) all))
+    ap (λ segment. segment ∷ map (λ segment. segment false) (map (path_segment usual_rules) raws)) (servable_kept (percent_decode raw) (All-head IsServable (percent_decode raw) (map percent_decode raws) all))
     ∙ ap (λ segments. percent_decode raw ∷ segments) (dirs_kept raws (All-tail IsServable (percent_decode raw) (map percent_decode raws) all))
 
 -- a byte that every name may have, as a test for a text that is written out

@@ -2,7 +2,7 @@
 use Rattle.std.specs.Prelude.{◌≡◌, ◌≢◌, ℕ, Bool, false, ◌≤◌, List, [], ◌++◌, length, codes, All, Contains, IsUtf8}
 use Rattle.std.specs.List.{slice_split}
 use Rattle.local_names.specs.PlainNames.{is_slash, is_control, is_part}
-use Rattle.local_names.specs.Names.{numbered_by}
+use Rattle.local_names.specs.Names.{numbered_by, IsDirectory}
 use Rattle.local_names.specs.declared.plain_name.TheConstants.{MAX_SEGMENT, ORIGINAL}
 
 -- a segment that names something within its directory
@@ -43,6 +43,8 @@ pub record IsText (name : List ℕ) : Type 0 where
 abbrev pub IsNoPart : List ℕ → Type 0
 IsNoPart name = is_part name ≡ false
 
--- whatever a name is, that of a body as it came, which may be beside its file, is none of these
-abbrev pub LeaveOriginals : List (List ℕ) → Type 0
-LeaveOriginals names = (name : List ℕ) → ¬ Contains names (name ++ ORIGINAL.now)
+-- the name of each body as it came, which may be beside its file, is free: whatever a name is, that with this after it is none of
+-- these, and if it is one of these, no directory of one either
+pub record LeaveOriginals (names : List (List ℕ)) : Type 0 where
+  pub no_name : (name : List ℕ) → ¬ Contains names (name ++ ORIGINAL.now)
+  pub no_directory : (name : List ℕ) → Contains names name → ¬ IsDirectory names (name ++ ORIGINAL.now)

@@ -109,10 +109,27 @@ segment_within is_first room units = cut_in is_first room (without_dots units)
 abbrev pub local_segment : Bool → List Unit → List ℕ
 local_segment is_first units = segment_within is_first MAX_SEGMENT units
 
+-- the same with this after it, for which the cut leaves room
+abbrev pub segment_with : List ℕ → Bool → List Unit → List ℕ
+segment_with end is_first units = segment_within is_first (MAX_SEGMENT - length end) units ++ end
+
+-- the name, or a segment, ends as the name of a body as it came, which may be beside the file of its page
+abbrev pub is_original : List ℕ → Bool
+is_original name = ends_with nat_eq name ORIGINAL.now
+
+-- a segment as it is in a name, first or after others
+abbrev pub Segment : Type 0
+Segment = Bool → List ℕ
+
+-- a directory of a path: with `.1` after it if it would end so, and names have originals
+abbrev pub dir_segment : Bool → List Unit → Segment
+dir_segment has_originals units is_first =
+    if has_originals && is_original (local_segment is_first units) then segment_with (codes ".1") is_first units else local_segment is_first units
+
 -- the segments as they are in a name
-abbrev pub local_segments : List (List Unit) → List (List ℕ)
+abbrev pub local_segments : List Segment → List (List ℕ)
 local_segments [] = []
-local_segments (first ∷ others) = local_segment true first ∷ map (local_segment false) others
+local_segments (first ∷ others) = first true ∷ map (λ segment. segment false) others
 
 -- ---- the segments of a page's name
 
@@ -136,6 +153,10 @@ dir_segments dir = filter has_bytes (slice_split is_slash dir)
 abbrev pub path_units : NameRules → List ℕ → List Unit
 path_units rules segment = units_of rules.chars (percent_decode segment)
 
+-- the same as a directory
+abbrev pub path_segment : NameRules → List ℕ → Segment
+path_segment rules segment = dir_segment rules.has_originals (path_units rules segment)
+
 -- the name that is given, or `index.html` if none is, or an empty one
 abbrev pub or_index : {Y : Type 0} → Option (String Y) → List ℕ
 or_index None = codes "index.html"
@@ -154,21 +175,23 @@ last_units rules page =
     file_units rules (file_of page) ++ marked_units (with_letters rules.chars) (query_mark rules.chars) (percent_decode (query_of page))
 
 -- what is in front of the path: the scheme, and the host
-abbrev pub scheme_segment : NameRules → AddressText → List (List Unit)
-scheme_segment rules page = if rules.has_protocol then units_of (with_letters rules.chars) (scheme_text (scheme_of page)) ∷ [] else []
+abbrev pub scheme_segment : NameRules → AddressText → List Segment
+scheme_segment rules page =
+    if rules.has_protocol then (λ is_first. local_segment is_first (units_of (with_letters rules.chars) (scheme_text (scheme_of page)))) ∷ [] else []
 
-abbrev pub host_segment : NameRules → AddressText → List (List Unit)
-host_segment rules page = if rules.has_host then host_units rules page ∷ [] else []
+abbrev pub host_segment : NameRules → AddressText → List Segment
+host_segment rules page = if rules.has_host then (λ is_first. local_segment is_first (host_units rules page)) ∷ [] else []
 
--- the directories of a name: those in front, and those of the path except the first ones that are cut
-abbrev pub front_segments : NameRules → AddressText → List (List Unit)
+-- the directories of a name: those in front, in which no file of a page is directly, and those of the path except the first ones
+-- that are cut
+abbrev pub front_segments : NameRules → AddressText → List Segment
 front_segments rules page =
     if rules.has_directories
-    then (scheme_segment rules page ++ (host_segment rules page ++ map (path_units rules) (drop rules.cut_dirs (dir_segments (dir_of page)))))
+    then (scheme_segment rules page ++ (host_segment rules page ++ map (path_segment rules) (drop rules.cut_dirs (dir_segments (dir_of page)))))
     else []
 
 -- no segment is in front of the last
-abbrev pub is_alone : List (List Unit) → Bool
+abbrev pub is_alone : List Segment → Bool
 is_alone [] = true
 is_alone (front ∷ fronts) = false
 
@@ -184,10 +207,6 @@ plain_name_within room rules page = join_with_byte slash (segments_within room r
 -- the same with this after it, for which the cut of the last segment leaves room
 abbrev pub plain_name_with : List ℕ → NameRules → AddressText → List ℕ
 plain_name_with end rules page = plain_name_within (MAX_SEGMENT - length end) rules page ++ end
-
--- the name ends as that of a body as it came, which may be beside the file of its page
-abbrev pub is_original : List ℕ → Bool
-is_original name = ends_with nat_eq name ORIGINAL.now
 
 -- the plain name of a page, whatever its body is: with `.1` after it if it would end so, and names have originals
 abbrev pub plain_name_of : NameRules → AddressText → List ℕ

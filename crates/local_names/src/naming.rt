@@ -220,8 +220,8 @@ fn assign(alloc: Global, has_endings: bool, plain: &[String]) -> Result<Vec<Stri
 /// empty, the query. Path and query are decoded once; what no name can have is escaped again. Each
 /// segment is cut to [`MAX_SEGMENT`] bytes. If a name is a directory of another page's, or was given,
 /// `.1`, `.2`, .. is added. A name that would begin as [`PART`](crate::PART) has its first dot escaped, and if the rules have originals,
-/// one that would end as [`ORIGINAL`](crate::ORIGINAL) gets `.1` first. The rules say otherwise of some of it. The error is out of
-/// memory.
+/// a name or a directory of a path that would end as [`ORIGINAL`](crate::ORIGINAL) gets `.1` first. The rules say otherwise of some of
+/// it. The error is out of memory.
 ///
 /// By the usual rules the names of `http://h/a`, `http://h/a/%C3%A4` and `http://h:81/b?c` are `h/a.1`,
 /// `h/a/ä` and `h:81/b?c`.
@@ -243,7 +243,7 @@ pub fn names(alloc: Global, rules: &NameRules, pages: &[Address]) -> Result<Vec<
     // None begins as the name of a part does.
     ensures no_part { IfOk result (λ names. All IsNoPart (map string_bytes names.items)) }
 
-    // Each name with `.orig` after it is free if the rules have originals.
+    // Each name with `.orig` after it is free if the rules have originals: it is no name, and no directory of one.
     ensures free { IfOk result (λ names. IsTrue rules.now.has_originals → LeaveOriginals (map string_bytes names.items)) }
 
     // By the usual rules a web server finds the pages by their paths.
@@ -286,7 +286,7 @@ pub fn names_with_endings(
     // None begins as the name of a part does.
     ensures no_part { IfOk result (λ names. All IsNoPart (map string_bytes names.items)) }
 
-    // Each name with `.orig` after it is free if the rules have originals.
+    // Each name with `.orig` after it is free if the rules have originals: it is no name, and no directory of one.
     ensures free { IfOk result (λ names. IsTrue rules.now.has_originals → LeaveOriginals (map string_bytes names.items)) }
 {
     let plain = ended_names(alloc, rules, pages, kinds)?;

@@ -3,13 +3,13 @@
 ghost use Rattle.std.specs.Prelude.{◌≡◌, ◌≤◌, IfOk, OnOk, map, drop, length, string_bytes};
 ghost use Rattle.address.specs.Address.{IsAddress, port_of, port_text, query_of};
 ghost use Rattle.percent_encoding.specs.Percent.{percent_decode};
-ghost use Rattle.local_names.specs.PlainNames.{is_slash, port_mark, query_mark, host_units, dir_segments, path_units, default_page, file_units, last_units, scheme_segment, host_segment, front_segments, plain_name_within, is_original, plain_name_with, plain_name_of};
+ghost use Rattle.local_names.specs.PlainNames.{is_slash, port_mark, query_mark, host_units, dir_segments, path_units, path_segment, default_page, file_units, last_units, scheme_segment, host_segment, front_segments, plain_name_within, is_original, plain_name_with, plain_name_of};
 ghost use Rattle.local_names.specs.Endings.{ending_for, ended_name};
 ghost use Rattle.local_names.specs.inner.Units.{unit_text, lent_bytes, all_below};
 
 use crate::ending::{ending_for, shows_kind};
 use crate::rules::{CharRules, NameRules};
-use crate::unit::{Unit, push_marked, push_segment, push_units, push_within};
+use crate::unit::{Unit, push_dir, push_marked, push_segment, push_units, push_within};
 use address::Address;
 use kept_bodies::BodyKind;
 use percent_encoding::percent_decode;
@@ -22,8 +22,8 @@ pub const MAX_SEGMENT: usize = 200;
 /// and of the index of a mirror. No page has a name that begins so.
 pub const PART: &str = ".wgetr%";
 
-/// What the name of a page's body as it came has after that of the page's file. No page has a name that ends so if rules of names
-/// [have originals](NameRules::has_originals).
+/// What the name of a page's body as it came has after that of the page's file. No page has a name that ends so, and no directory of
+/// its path either, if rules of names [have originals](NameRules::has_originals).
 pub const ORIGINAL: &str = ".orig";
 
 // The text with its escapes decoded.
@@ -183,10 +183,10 @@ fn push_dirs(
     rules: &NameRules,
     dirs: &[&[u8]],
 ) -> Result<(), AllocError>
-    ensures { OnOk result (string_bytes name.new ≡ all_below (string_bytes name.old) (map (path_units rules.now) (map lent_bytes dirs.now))) }
+    ensures { OnOk result (string_bytes name.new ≡ all_below (string_bytes name.old) (map (path_segment rules.now) (map lent_bytes dirs.now))) }
 {
     for dir in dirs {
-        push_segment(name, path_units(alloc, rules, dir)?)?;
+        push_dir(name, rules.has_originals, path_units(alloc, rules, dir)?)?;
     }
     Ok(())
 }
@@ -198,7 +198,7 @@ fn push_uncut(
     rules: &NameRules,
     dir: &str,
 ) -> Result<(), AllocError>
-    ensures { OnOk result (string_bytes name.new ≡ all_below (string_bytes name.old) (map (path_units rules.now) (drop rules.now.cut_dirs (dir_segments dir.now)))) }
+    ensures { OnOk result (string_bytes name.new ≡ all_below (string_bytes name.old) (map (path_segment rules.now) (drop rules.now.cut_dirs (dir_segments dir.now)))) }
 {
     let dirs = dir_segments(alloc, dir.as_bytes())?;
     push_dirs(alloc, name, rules, &dirs[rules.cut_dirs.min(dirs.len())..])
@@ -255,8 +255,8 @@ fn name_with(
     Ok(name)
 }
 
-// Whether the name ends as that of a body as it came.
-fn is_original(name: &str) -> bool
+/// Whether the name ends as that of a body as it came.
+pub(crate) fn is_original(name: &str) -> bool
     ensures { result ≡ is_original name.now }
 {
     name.as_bytes().ends_with(ORIGINAL.as_bytes())

@@ -54,7 +54,8 @@ pub struct NameRules {
     pub default_page: Option<String>,
     /// Which characters a name has.
     pub chars: CharRules,
-    /// No name ends as [`ORIGINAL`](crate::ORIGINAL), so each name with that after it is free for the body of its page as it came.
+    /// Neither a name nor a directory of a path ends as [`ORIGINAL`](crate::ORIGINAL), so each name with that after it is free for the
+    /// body of its page as it came.
     pub has_originals: bool,
 }
 

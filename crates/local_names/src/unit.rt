@@ -2,10 +2,10 @@
 ghost use Rattle.std.specs.Prelude.{◌≡◌, ◌<◌, ◌≤◌, ◌-◌, ◌++◌, ◌||◌, OnOk, Some, map, drop, string_bytes, length};
 ghost use Rattle.std.specs.List.{list_all};
 ghost use Rattle.percent_encoding.specs.Percent.{percent_encode_byte};
-ghost use Rattle.local_names.specs.PlainNames.{is_control, is_slash, is_refused_by_windows, is_kept, in_case, piece_units, units_of, marked_units, without_dots, cut, is_part, cut_in};
+ghost use Rattle.local_names.specs.PlainNames.{is_control, is_slash, is_refused_by_windows, is_kept, in_case, piece_units, units_of, marked_units, without_dots, cut, is_part, cut_in, local_segment, dir_segment};
 ghost use Rattle.local_names.specs.inner.Units.{unit_text, is_dot_unit, started, is_new, below, below_within};
 
-use crate::plain_name::{MAX_SEGMENT, PART};
+use crate::plain_name::{MAX_SEGMENT, PART, is_original};
 use crate::rules::{CharRules, LetterCase};
 use bstr::decode_utf8;
 use percent_encoding::percent_encode_byte;
@@ -236,6 +236,15 @@ fn push_slash(name: &mut String) -> Result<(), AllocError>
     Ok(())
 }
 
+// Adds a segment of these units, in which dots alone are escaped, below those that are there. It has no more bytes than this.
+fn push_escaped(name: &mut String, room: usize, units: &[Unit]) -> Result<(), AllocError>
+    requires { 3 ≤ room }
+    ensures { OnOk result (string_bytes name.new ≡ started (string_bytes name.old) ++ cut_in (is_new (string_bytes name.old)) room (map unit_text units.now)) }
+{
+    push_slash(name)?;
+    push_apart(name, room, units)
+}
+
 /// Adds a segment of these units, which has no more bytes than this, to a name, below those that are there.
 pub(crate) fn push_within(
     name: &mut String,
@@ -246,13 +255,32 @@ pub(crate) fn push_within(
     ensures { OnOk result (string_bytes name.new ≡ below_within room (string_bytes name.old) (map unit_text units.items)) }
 {
     escape_dots(&mut units);
-    push_slash(name)?;
-    push_apart(name, room, &units)
+    push_escaped(name, room, &units)
 }
 
 /// Adds a segment with as many bytes as a segment may have.
 pub(crate) fn push_segment(name: &mut String, units: Vec<Unit>) -> Result<(), AllocError>
-    ensures { OnOk result (string_bytes name.new ≡ below (string_bytes name.old) (map unit_text units.items)) }
+    ensures { OnOk result (string_bytes name.new ≡ below (string_bytes name.old) (λ is_first. local_segment is_first (map unit_text units.items))) }
 {
     push_within(name, MAX_SEGMENT, units)
+}
+
+/// The same for a directory of a path, which gets `.1` if it would end as the name of a body as it came, and names have originals. The
+/// cut leaves room for it.
+pub(crate) fn push_dir(
+    name: &mut String,
+    has_originals: bool,
+    mut units: Vec<Unit>,
+) -> Result<(), AllocError>
+    ensures { OnOk result (string_bytes name.new ≡ below (string_bytes name.old) (dir_segment has_originals (map unit_text units.items))) }
+{
+    escape_dots(&mut units);
+    let len = name.len();
+    push_escaped(name, MAX_SEGMENT, &units)?;
+    if has_originals && is_original(name.as_str()) {
+        name.truncate(len);
+        push_escaped(name, MAX_SEGMENT - 2, &units)?;
+        name.push_str(".1")?;
+    }
+    Ok(())
 }

@@ -6,8 +6,7 @@ use denote.Ref.{Bor}
 use Rattle.percent_encoding.specs.Percent.{percent_encode_byte}
 use Rattle.local_names.specs.declared.unit.Unit.{Unit}
 use Rattle.local_names.specs.declared.unit.Unit.TheVariants.{Char, Escape}
-use Rattle.local_names.specs.declared.plain_name.TheConstants.{MAX_SEGMENT}
-use Rattle.local_names.specs.PlainNames.{slash, is_dot, has_bytes, segment_within}
+use Rattle.local_names.specs.PlainNames.{slash, is_dot, has_bytes, segment_within, Segment}
 
 -- the bytes of a unit
 abbrev pub unit_text : Unit → List ℕ
@@ -30,15 +29,15 @@ started name = if has_bytes name then (name ++ slash ∷ []) else []
 abbrev pub is_new : List ℕ → Bool
 is_new name = not (has_bytes name)
 
--- the name with one segment more, which has no more bytes than this
-abbrev pub below_within : ℕ → List ℕ → List (List ℕ) → List ℕ
-below_within room name units = started name ++ segment_within (is_new name) room units
+-- the name with one segment more
+abbrev pub below : List ℕ → Segment → List ℕ
+below name segment = started name ++ segment (is_new name)
 
--- the same with as many bytes as a segment may have
-abbrev pub below : List ℕ → List (List ℕ) → List ℕ
-below name units = below_within MAX_SEGMENT name units
+-- the same with one of these units, which has no more bytes than this
+abbrev pub below_within : ℕ → List ℕ → List (List ℕ) → List ℕ
+below_within room name units = below name (λ is_first. segment_within is_first room units)
 
 -- the name with these segments more
-abbrev pub all_below : List ℕ → List (List (List ℕ)) → List ℕ
+abbrev pub all_below : List ℕ → List Segment → List ℕ
 all_below name [] = name
-all_below name (units ∷ others) = all_below (below name units) others
+all_below name (segment ∷ others) = all_below (below name segment) others

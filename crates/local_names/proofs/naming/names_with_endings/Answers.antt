@@ -6,8 +6,9 @@ use Rattle.local_names.specs.Names.{IsNamingBy}
 use Rattle.local_names.specs.LocalNames.{StaysInside, HasShortSegmentsBy, IsUncontrolled, IsNoPart}
 use Rattle.local_names.proofs.EndingLaws.{length-ended_names}
 use Rattle.local_names.proofs.NamingLaws.{IsNamingBy-sole, IsNaming-distinct, IsNaming-apart}
-use Rattle.local_names.proofs.OriginalLaws.{all_ended_end, names_leave}
-use Rattle.local_names.proofs.PlainLaws.{ended_are, all_names, names_show, made_stays_inside, made_text, texts}
+use Rattle.local_names.proofs.OriginalLaws.{all_ended_end}
+use Rattle.local_names.proofs.DirectoryLaws.{names_leave}
+use Rattle.local_names.proofs.PlainLaws.{ended_are, all_names, names_show, IsParted, made_stays_inside, made_text, texts}
 use Rattle.local_names.proofs.naming.names_with_endings.Goals as goal
 
 pub returns : goal.returns
@@ -26,9 +27,9 @@ returns c =
       count = sym (length-map c.in_ok-assign.field-0.items string_bytes) ∙ naming.count ∙ length-ended_names rules pages kinds;
       distinct = IsNaming-distinct true plain names naming;
       apart = IsNaming-apart true plain names naming;
-      inside = all_names StaysInside true plain names naming are (λ name is. made_stays_inside name is.made);
-      short = all_names (HasShortSegmentsBy true) true plain names naming are (λ name is. is.short);
-      text = texts c.in_ok-assign.field-0.items (all_names (All IsUncontrolled) true plain names naming are (λ name is. made_text name is.made));
-      no_part = all_names IsNoPart true plain names naming are (λ name is. is.no_part);
-      free = λ on. names_leave true plain names naming (all_ended_end rules pages kinds on);
+      inside = all_names rules StaysInside true plain names naming are (λ name is. made_stays_inside name is.made);
+      short = all_names rules (HasShortSegmentsBy true) true plain names naming are (λ name is. is.short);
+      text = texts c.in_ok-assign.field-0.items (all_names rules (All IsUncontrolled) true plain names naming are (λ name is. made_text name is.made));
+      no_part = all_names rules IsNoPart true plain names naming are (λ name is. is.no_part);
+      free = λ on. names_leave rules true plain names naming on (all_ended_end rules pages kinds on) (all_names rules (IsParted rules) true plain names naming are (λ name is. is.parted));
     }
