@@ -10,15 +10,15 @@ use early_names::EarlyRules;
 use harvest::Harvest;
 use kept_bodies::Body;
 use local_tree::{
-    BodyChange, DiskFolder, Folder, FolderFault, NamesParts, Originals, Shelf, WriteFault,
-    put_changed_parts, put_parts,
+    BodyChange, ChangeCrew, DiskFolder, FileToChange, Folder, FolderFault, NamesParts, Originals,
+    Shelf, WriteFault, put_changed_parts, put_parts,
 };
 use part_keeper::{KeptPart, PartsDir, Standing};
 use record_journal::SavedFile;
 use std::alloc::{AllocError, Global};
 use std::fs::Files;
 use std::io;
-use std::io::{ErrorKind, Write};
+use std::io::{Error, ErrorKind, Write};
 use std::net::Net;
 use std::sync::Wait;
 use std::thread::Threads;
@@ -116,16 +116,20 @@ where
     }
 
     // Keeps why the links of the file of this name couldn't be changed.
-    fn note_unchanged(&self, name: &str) {
-        let Some(error) = self.inner.error() else {
-            return;
-        };
+    fn note_unchanged(&self, name: &str, error: &Error) {
         if error.kind() == ErrorKind::InvalidData {
             if let Ok(text) = unread_line(self.alloc, name) {
                 self.failures.say(self.rt, text.as_str());
             }
         } else {
             self.failures.fail(self.rt, name, error);
+        }
+    }
+
+    // The same of the last file that was put.
+    fn note_left(&self, name: &str) {
+        if let Some(error) = self.inner.error() {
+            self.note_unchanged(name, error);
         }
     }
 
@@ -241,20 +245,18 @@ where
         put
     }
 
-    fn put_changed_part<C: BodyChange>(
+    fn change_parts<C: BodyChange, W: ChangeCrew>(
         &mut self,
-        place: usize,
-        name: &str,
-        part: &KeptPart,
+        files: &[FileToChange<'_>],
         change: &C,
-    ) -> Result<bool, FolderFault> {
-        let put = self.inner.put_changed(place, name, part, change);
-        match put {
-            Ok(true) => {}
-            Ok(false) => self.note_unchanged(name),
-            Err(_) => self.note_part(name, part),
+        crew: &W,
+    ) -> bool {
+        let disk = self.crew.disk();
+        let unchanged = self.inner.change_files(disk, files, change, crew);
+        for (name, error) in unchanged.reasons() {
+            self.note_unchanged(name, error);
         }
-        put
+        unchanged.is_empty()
     }
 }
 
@@ -299,24 +301,25 @@ where
             .put_changed_kept(alloc, place, name, kept, change);
         match put {
             Ok(true) => {}
-            Ok(false) => self.note_unchanged(name),
+            Ok(false) => self.note_left(name),
             Err(_) => self.note_part(name, kept),
         }
         put
     }
 
-    fn put_changed_harvest<C: BodyChange>(
+    fn put_changed_harvest<C: BodyChange, W: ChangeCrew>(
         &mut self,
-        _alloc: Global,
+        alloc: Global,
         names: &[String],
         harvest: &Harvest<KeptPart>,
         change: &C,
+        crew: &W,
     ) -> Result<bool, WriteFault> {
         self.take_parts();
         self.take_back(names, harvest);
         self.make_way(names, harvest);
         self.inner.keep_originals(self.originals, names);
-        let put = put_changed_parts(self, names, harvest, change);
+        let put = put_changed_parts(alloc, self, names, harvest, change, crew);
         self.inner.end_puts();
         if put.is_ok() {
             self.note_put(names, harvest);

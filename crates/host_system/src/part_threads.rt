@@ -19,6 +19,11 @@ impl<'a, R> PartThreads<'a, R> {
     pub fn new(rt: &'a R, disk: &'a HostRuntime) -> PartThreads<'a, R> {
         PartThreads { rt, disk }
     }
+
+    // The disk.
+    pub(crate) fn disk(&self) -> &'a HostRuntime {
+        self.disk
+    }
 }
 
 // Writes these parts in this thread.

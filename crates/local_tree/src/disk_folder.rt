@@ -19,10 +19,12 @@ use std::time::SystemTime;
 use std::{fs, io, mem};
 use streams::{Close, Lock};
 
+mod change_lanes;
 mod file_changes;
 mod named_parts;
 mod originals;
 
+pub use change_lanes::{ChangeCrew, ChangeLane, FileToChange, Unchanged};
 pub use named_parts::{NamesParts, put_changed_parts, put_parts};
 use originals::Keeping;
 pub use originals::Originals;
@@ -85,8 +87,6 @@ pub struct DiskFolder<'a, R: Files> {
     // Where parts are made, while files are put.
     own: Option<OwnDir<R::File>>,
     known: Known,
-    // The same of hidden bodies.
-    known_hidden: Known,
     keeping: Keeping,
     failed: u64,
     // That of the last put that failed.
@@ -363,7 +363,6 @@ where
             has_moved_back: false,
             own: None,
             known: Known::nothing(alloc),
-            known_hidden: Known::nothing(alloc),
             keeping: Keeping::Nowhere,
             failed: 0,
             error: None,

@@ -5,7 +5,10 @@
 #![tactic(auto)]
 
 pub use crate::body_change::{BodyChange, ChangeFault};
-pub use crate::disk_folder::{DiskFolder, NamesParts, Originals, put_changed_parts, put_parts};
+pub use crate::disk_folder::{
+    ChangeCrew, ChangeLane, DiskFolder, FileToChange, NamesParts, Originals, Unchanged,
+    put_changed_parts, put_parts,
+};
 pub use crate::folder::{Folder, FolderFault};
 pub use crate::memory_folder::MemoryFolder;
 pub use crate::parts::{FilePart, Naming, PartCrew};

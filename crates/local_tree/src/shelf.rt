@@ -8,6 +8,7 @@ ghost use Rattle.local_tree.specs.Folders.{Puts, KeepsOthers, CountsRefusedPut, 
 ghost use Rattle.local_tree.specs.Shelves.{IsShelved, IsHalfShelvedBy};
 
 use crate::body_change::BodyChange;
+use crate::disk_folder::ChangeCrew;
 use crate::folder::{Folder, FolderFault};
 use crate::site_files::WriteFault;
 use harvest::Harvest;
@@ -114,13 +115,15 @@ pub trait Shelf<B: Drop>: Folder {
         ensures counted { CountsRefusedPut (Self.failed self.old) (Self.failed self.new) result };
 
     /// Puts the kept pages of a harvest, in their order, each under its name and with what is to be in place of its body. Whether all
-    /// have that; the others have their bodies as they came. If a put fails no other is made, as of [`Shelf::put_harvest`].
-    fn put_changed_harvest<C: BodyChange>(
+    /// have that; the others have their bodies as they came. If a put fails no other is made, as of [`Shelf::put_harvest`]. A folder may
+    /// put all first, and then have the crew change files.
+    fn put_changed_harvest<C: BodyChange, W: ChangeCrew>(
         &mut self,
         alloc: Global,
         names: &[String],
         harvest: &Harvest<B>,
         change: &C,
+        _crew: &W,
     ) -> Result<bool, WriteFault>
         requires count { length names.now ≡ length harvest.now.kept }
         requires distinct { AreDistinct (map string_bytes names.now) }

@@ -6,6 +6,7 @@ ghost use Rattle.local_names.specs.Names.{AreDistinct};
 ghost use Rattle.local_tree.specs.Shelves.{IsShelved, IsHalfShelvedBy};
 
 use crate::body_change::BodyChange;
+use crate::disk_folder::ChangeCrew;
 use crate::shelf::Shelf;
 use harvest::Harvest;
 use std::alloc::Global;
@@ -36,13 +37,14 @@ pub fn write_site<B: Drop, D: Shelf<B>>(
 }
 
 /// The same, but each file has what is to be in place of its body. Whether all have that: each other one has the body as it came, since
-/// memory ran out, or nothing can be in its place, or the folder failed.
-pub fn write_changed_site<B: Drop, D: Shelf<B>, C: BodyChange>(
+/// memory ran out, or nothing can be in its place, or the folder failed. The crew is for folders that change files after all are put.
+pub fn write_changed_site<B: Drop, D: Shelf<B>, C: BodyChange, W: ChangeCrew>(
     alloc: Global,
     folder: &mut D,
     names: &[String],
     harvest: &Harvest<B>,
     change: &C,
+    crew: &W,
 ) -> Result<bool, WriteFault>
     requires count { length names.now ≡ length harvest.now.kept }
     requires distinct { AreDistinct (map string_bytes names.now) }
@@ -50,5 +52,5 @@ pub fn write_changed_site<B: Drop, D: Shelf<B>, C: BodyChange>(
     ensures torn { IfErr result (IsHalfShelvedAsBy (C.becomes change.now) D.holds (map string_bytes names.now) harvest.now.bodies (holding D.files D.failed folder.old) (holding D.files D.failed folder.new)) }
     ensures quiet { OnOk result (D.failed folder.new ≡ D.failed folder.old) }
 {
-    folder.put_changed_harvest(alloc, names, harvest, change)
+    folder.put_changed_harvest(alloc, names, harvest, change, crew)
 }

@@ -4,7 +4,9 @@ use fetcher::Body;
 use harvest::Harvest;
 use kept_bodies::BodyKind;
 use local_names::{NameRules, names};
-use local_tree::{BodyChange, ChangeFault, MemoryFolder, WriteFault, write_changed_site};
+use local_tree::{
+    BodyChange, ChangeCrew, ChangeFault, ChangeLane, MemoryFolder, WriteFault, write_changed_site,
+};
 use site_maps::MapSite;
 use std::alloc::Global;
 use std::process::Abort;
@@ -39,6 +41,14 @@ impl BodyChange for Digits {
     }
 }
 
+/// Nobody: a folder in memory has no lanes.
+#[derive(Drop)]
+struct NoCrew;
+
+impl ChangeCrew for NoCrew {
+    fn run_lanes(&self, _lanes: &mut [ChangeLane<'_, '_>]) {}
+}
+
 /// What is kept of the map.
 fn harvest_of(rt: &impl Abort, alloc: Global) -> Harvest<Body> {
     let mut site = MapSite::read(alloc, MAP).expect(rt, "a map");
@@ -61,7 +71,7 @@ fn put(rt: &impl Abort, alloc: Global, folder: &mut MemoryFolder) -> Result<bool
     let harvest = harvest_of(rt, alloc);
     let rules = NameRules::default();
     let names = names(alloc, &rules, harvest.kept()).expect(rt, "memory");
-    let put = write_changed_site(alloc, folder, names.as_slice(), &harvest, &Digits);
+    let put = write_changed_site(alloc, folder, names.as_slice(), &harvest, &Digits, &NoCrew);
     drop(names);
     drop(harvest);
     put

@@ -3,11 +3,15 @@ ghost use Rattle.std.specs.Prelude.{◌≡◌, length, map, string_bytes};
 ghost use Rattle.retriever.specs.Mirrored.{kept_as_named};
 
 use kept_bodies::BodyKind;
-use local_tree::{BodyChange, ChangeFault};
+use local_tree::{BodyChange, ChangeCrew, ChangeFault, ChangeLane};
 use run_mirror::{Anew, RunMirror};
 use std::alloc::Global;
 use std::marker::Model;
+use std::thread::{Threads, join};
 use workers::Harvest;
+
+/// How many threads beside the caller's change files.
+const THREADS: usize = 3;
 
 /// What becomes of the links of a harvest's kept pages.
 #[derive(Drop)]
@@ -57,5 +61,52 @@ impl<'a> BodyChange for LinkChange<'a> {
             Anew::Changed(other) => Ok(Some(other)),
             Anew::Left => Err(ChangeFault::Left),
         }
+    }
+}
+
+/// Threads in which links of files change, and what becomes of these. If no thread can be made, the caller's does its work.
+#[derive(Drop)]
+pub(crate) struct LinkThreads<'a, H> {
+    rt: &'a H,
+    change: &'a LinkChange<'a>,
+}
+
+impl<'a, H> LinkThreads<'a, H> {
+    /// By this handle. Takes no memory.
+    pub(crate) fn new(rt: &'a H, change: &'a LinkChange<'a>) -> LinkThreads<'a, H> {
+        LinkThreads { rt, change }
+    }
+}
+
+// Goes through these lanes in this thread.
+fn change_all(lanes: &mut [ChangeLane<'_, '_>], change: &LinkChange<'_>) {
+    for lane in lanes {
+        lane.run(change);
+    }
+}
+
+// Goes through these lanes, one in each of so many other threads, and the rest in this one.
+#[cycle(lanes)]
+fn change_in<H: Threads>(
+    rt: &H,
+    threads: usize,
+    lanes: &mut [ChangeLane<'_, '_>],
+    change: &LinkChange<'_>,
+) {
+    if threads == 0 {
+        return change_all(lanes, change);
+    }
+    let (first, rest) = lanes.split_at_mut(lanes.len().min(1));
+    let others = threads - 1;
+    join(
+        rt,
+        || change_all(first, change),
+        || change_in(rt, others, rest, change),
+    );
+}
+
+impl<'a, H: Threads> ChangeCrew for LinkThreads<'a, H> {
+    fn run_lanes(&self, lanes: &mut [ChangeLane<'_, '_>]) {
+        change_in(self.rt, THREADS, lanes, self.change);
     }
 }

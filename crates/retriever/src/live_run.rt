@@ -14,7 +14,7 @@ ghost use Rattle.retriever.specs.Retrieved.{Stopped};
 ghost use Rattle.retriever.specs.Rejecting.{IsRetrievedBy};
 ghost use Rattle.retriever.specs.Run.{finish_text};
 
-use crate::link_change::LinkChange;
+use crate::link_change::{LinkChange, LinkThreads};
 use crate::quota::ByLength;
 use crate::render::{halt_text, render_harvest};
 use fetcher::Fetcher;
@@ -142,7 +142,8 @@ fn tell_put<B: Drop, W: Write>(
 }
 
 // Puts the kept pages of a harvest into the folder under these names, with their links changed. Whether all are that are to be.
-fn put_changed<B: HasKind + Drop, D: Shelf<B>>(
+fn put_changed<H: Threads, B: HasKind + Drop, D: Shelf<B>>(
+    rt: &H,
     alloc: Global,
     names: &[String],
     harvest: &Harvest<B>,
@@ -155,11 +156,13 @@ fn put_changed<B: HasKind + Drop, D: Shelf<B>>(
     ensures quiet { OnOk result (D.failed folder.new ≡ D.failed folder.old) }
 {
     let change = LinkChange::of(alloc, harvest, names);
-    write_changed_site(alloc, folder, names, harvest, &change)
+    let crew = LinkThreads::new(rt, &change);
+    write_changed_site(alloc, folder, names, harvest, &change, &crew)
 }
 
 // Puts the kept pages of a harvest into the folder under these names, with their links changed or not. Whether all are that are to be.
-fn put<B: HasKind + Drop, D: Shelf<B>>(
+fn put<H: Threads, B: HasKind + Drop, D: Shelf<B>>(
+    rt: &H,
     alloc: Global,
     converts: bool,
     names: &[String],
@@ -173,7 +176,7 @@ fn put<B: HasKind + Drop, D: Shelf<B>>(
     ensures quiet { OnOk result (D.failed folder.new ≡ D.failed folder.old) }
 {
     if converts {
-        return put_changed(alloc, names, harvest, folder);
+        return put_changed(rt, alloc, names, harvest, folder);
     }
     match write_site(folder, names, harvest) {
         Ok(()) => Ok(true),
@@ -182,7 +185,8 @@ fn put<B: HasKind + Drop, D: Shelf<B>>(
 }
 
 // Puts the kept pages of a harvest into the folder under these names, and then writes its text.
-fn put_and_tell<B: HasKind + Drop, D: Shelf<B>, W: Write>(
+fn put_and_tell<H: Threads, B: HasKind + Drop, D: Shelf<B>, W: Write>(
+    rt: &H,
     alloc: Global,
     converts: bool,
     names: &[String],
@@ -196,14 +200,15 @@ fn put_and_tell<B: HasKind + Drop, D: Shelf<B>, W: Write>(
     ensures { IsPutAndTold converts (kept_as B.kind_of B.len_of D.holds) (IsToldAs (W.contents writer.old) (W.contents writer.new) result) (kept_as_named harvest.now (map string_bytes names.now)) harvest.now.bodies
         (text.now, exit_status (map (λ recorded. recorded.1) harvest.now.records)) (holding D.files D.failed folder.old) (holding D.files D.failed folder.new) }
 {
-    match put(alloc, converts, names, harvest, folder) {
+    match put(rt, alloc, converts, names, harvest, folder) {
         Ok(all) => tell_put(all, harvest, text, writer),
         Err(fault) => tell_torn(alloc, text, files_whole(fault), writer),
     }
 }
 
 // Puts and writes a harvest, whose kept pages have their names by these rules; if there is no memory for its names and its text nothing is put.
-fn finish_harvest<B: HasKind + Drop, D: Shelf<B>, W: Write>(
+fn finish_harvest<H: Threads, B: HasKind + Drop, D: Shelf<B>, W: Write>(
+    rt: &H,
     alloc: Global,
     converts: bool,
     naming: &PageNames,
@@ -217,6 +222,7 @@ fn finish_harvest<B: HasKind + Drop, D: Shelf<B>, W: Write>(
 {
     match render_harvest(alloc, naming, with_trace, harvest) {
         Ok(telling) => put_and_tell(
+            rt,
             alloc,
             converts,
             telling.names.as_slice(),
@@ -230,7 +236,8 @@ fn finish_harvest<B: HasKind + Drop, D: Shelf<B>, W: Write>(
 }
 
 // Puts and reports what was retrieved before a stop: a front that the quota ended as a harvest, and of any other stop the cause.
-fn finish_halt<B: HasKind + Drop, D: Shelf<B>, W: Write>(
+fn finish_halt<H: Threads, B: HasKind + Drop, D: Shelf<B>, W: Write>(
+    rt: &H,
     alloc: Global,
     converts: bool,
     naming: &PageNames,
@@ -244,6 +251,7 @@ fn finish_halt<B: HasKind + Drop, D: Shelf<B>, W: Write>(
 {
     match halt.cause {
         Cause::Quota => finish_harvest(
+            rt,
             alloc,
             converts,
             naming,
@@ -260,7 +268,8 @@ fn finish_halt<B: HasKind + Drop, D: Shelf<B>, W: Write>(
 
 /// Puts and reports what was retrieved, whose kept pages have their names by these rules, with their links changed or not. The error is
 /// that the writer failed.
-pub(crate) fn finish<B: HasKind + Drop, D: Shelf<B>, W: Write>(
+pub(crate) fn finish<H: Threads, B: HasKind + Drop, D: Shelf<B>, W: Write>(
+    rt: &H,
     alloc: Global,
     converts: bool,
     naming: &PageNames,
@@ -273,8 +282,12 @@ pub(crate) fn finish<B: HasKind + Drop, D: Shelf<B>, W: Write>(
         (holding D.files D.failed folder.old) (holding D.files D.failed folder.new) }
 {
     match retrieved {
-        Ok(harvest) => finish_harvest(alloc, converts, naming, with_trace, harvest, folder, writer),
-        Err(halt) => finish_halt(alloc, converts, naming, with_trace, halt, folder, writer),
+        Ok(harvest) => finish_harvest(
+            rt, alloc, converts, naming, with_trace, harvest, folder, writer,
+        ),
+        Err(halt) => finish_halt(
+            rt, alloc, converts, naming, with_trace, halt, folder, writer,
+        ),
     }
 }
 
@@ -319,6 +332,7 @@ where
     // They are dropped before a report is made.
     drop(left);
     let told = finish(
+        rt,
         alloc,
         order.converts,
         &order.names,

@@ -141,6 +141,7 @@ pub(crate) fn live_saved<
     // They are dropped before a report is made.
     drop(left);
     let told = finish(
+        rt,
         alloc,
         order.converts,
         &order.names,

@@ -1,11 +1,11 @@
 //! Files that are to have other bytes in place of their bodies. What takes a file's place is prepared elsewhere, and takes it when it is
 //! whole.
+use super::change_lanes::FileToChange;
 use super::originals::{HIDDEN, ORIGINAL, Originals};
 use super::{Known, find_place, look_for_file, path_below, put_by_way_of};
 use crate::body_change::{BodyChange, ChangeFault};
 use crate::parts::write_new;
 use kept_bodies::BodyKind;
-use part_keeper::KeptPart;
 use std::alloc::Global;
 use std::fs::{File, Files, OpenFile};
 use std::io;
@@ -120,24 +120,22 @@ fn changed<C: BodyChange>(
 }
 
 impl FileChange {
-    // The change of the file of this name below a folder, prepared in a directory of the run's own. Its body is kept where that is said.
+    // The change of a file below a folder, prepared in a directory of the run's own. Its body is kept where that is said.
     pub(crate) fn new(
         alloc: Global,
         folder: &str,
         own: &str,
-        place: usize,
-        name: &str,
-        part: &KeptPart,
+        file: &FileToChange<'_>,
         originals: Originals,
     ) -> io::Result<FileChange> {
         Ok(FileChange {
-            place,
-            path: path_below(alloc, folder, name)?,
+            place: file.place,
+            path: path_below(alloc, folder, file.name)?,
             part: format!(in alloc; "{own}/part")?,
-            original: original_of(alloc, folder, name, originals)?,
+            original: original_of(alloc, folder, file.name, originals)?,
             original_part: format!(in alloc; "{own}/part{ORIGINAL}")?,
-            kind: part.kind,
-            len: part.len,
+            kind: file.part.kind,
+            len: file.part.len,
         })
     }
 

@@ -4,10 +4,11 @@ ghost use Rattle.local_tree.specs.Changes.{IsHalfShelvedAsBy};
 ghost use Rattle.local_tree.specs.Folders.{CountsRefusedPut, untold};
 ghost use Rattle.local_tree.specs.Shelves.{AreNamedBy, IsHalfShelvedBy, MakesOnePut};
 
+use super::change_lanes::{ChangeCrew, ChangeLane, FileToChange, LANES, Left, Unchanged};
+use super::file_changes::FileChange;
 use super::originals::{Keeping, Originals};
-use super::{DiskFolder, find_place};
+use super::{DiskFolder, Known, find_place, make_dir};
 use crate::body_change::BodyChange;
-use crate::disk_folder::file_changes::FileChange;
 use crate::folder::FolderFault;
 use crate::shelf::{HasKind, Shelf};
 use crate::site_files::WriteFault;
@@ -43,26 +44,6 @@ where
 {
     ghost use Rattle.std.specs.Prelude.{◌≡◌};
 
-    // What is to become of the file of a part that was put.
-    fn change_of(&mut self, place: usize, name: &str, part: &KeptPart) -> io::Result<FileChange>
-        ensures { self.new ≡ self.old }
-    {
-        let originals = self.keeping.place_of(name)?;
-        self.make_own()?;
-        let Some(own) = &self.own else {
-            return Err(Error::from(ErrorKind::NotFound));
-        };
-        FileChange::new(
-            self.alloc,
-            self.prefix.as_str(),
-            own.path(),
-            place,
-            name,
-            part,
-            originals,
-        )
-    }
-
     /// From now on the bodies of files that change are kept there as they came, but none in the place of a file with one of these names,
     /// which are all that are put. If one can't be kept beside its file, that stays as it came; without a hidden one it changes all the
     /// same.
@@ -72,62 +53,138 @@ where
         self.keeping = Keeping::of(self.alloc, originals, names);
     }
 
-    // Has the file of this name, which has a part, have what is to be in place of the body. If that fails it stays as it is.
-    fn change_file<C: BodyChange>(
-        &mut self,
-        place: usize,
-        name: &str,
-        part: &KeptPart,
-        change: &C,
-    ) -> io::Result<()>
-        ensures { self.new ≡ self.old }
-    {
-        let file = self.change_of(place, name, part)?;
-        file.finish(
-            self.rt,
-            self.alloc,
-            self.prefix.as_str(),
-            &mut self.known_hidden,
-            change,
-        )
+    // These files in lanes, as many for each, whose directories are there.
+    fn lanes<'s, 'f>(
+        &'s self,
+        disk: &'s HostRuntime,
+        files: &'s [FileToChange<'f>],
+    ) -> io::Result<Vec<ChangeLane<'s, 'f>>> {
+        let Some(own) = &self.own else {
+            return Err(Error::from(ErrorKind::NotFound));
+        };
+        let mut lanes = Vec::new(self.alloc);
+        for files in files.chunks(files.len().div_ceil(LANES).max(1)) {
+            let number = lanes.len();
+            let dir = format!(in self.alloc; "{}/changes{number}", own.path())?;
+            make_dir(self.rt, dir.as_str())?;
+            let lane = ChangeLane::new(
+                disk,
+                self.alloc,
+                self.prefix.as_str(),
+                dir,
+                files,
+                &self.keeping,
+            );
+            lanes.push(lane)?;
+        }
+        Ok(lanes)
     }
 
-    // The same, if bodies of that kind have links. Whether the file has that then; if not, the error is kept.
-    fn is_changed<C: BodyChange>(
-        &mut self,
-        place: usize,
-        name: &str,
-        part: &KeptPart,
+    // Has these files changed in lanes by the crew. Lanes that it didn't go through are gone through here. Gives the files that were left
+    // as they were.
+    fn change_in_lanes<'f, C: BodyChange, W: ChangeCrew>(
+        &self,
+        disk: &HostRuntime,
+        files: &[FileToChange<'f>],
         change: &C,
-    ) -> bool
+        crew: &W,
+    ) -> io::Result<Left<'f>> {
+        let mut lanes = self.lanes(disk, files)?;
+        crew.run_lanes(lanes.as_mut_slice());
+        let mut left = Left::none(self.alloc);
+        for lane in lanes {
+            left.add(&lane.finish(change));
+        }
+        Ok(left)
+    }
+
+    // Has a file have what is to be in place of its body.
+    fn change_file<C: BodyChange>(&self, file: &FileToChange<'_>, change: &C) -> io::Result<()> {
+        let originals = self.keeping.place_of(file.name)?;
+        let Some(own) = &self.own else {
+            return Err(Error::from(ErrorKind::NotFound));
+        };
+        let folder = self.prefix.as_str();
+        let made = FileChange::new(self.alloc, folder, own.path(), file, originals)?;
+        let mut known = Known::nothing(self.alloc);
+        made.finish(self.rt, self.alloc, folder, &mut known, change)
+    }
+
+    // The same of these, one after another. Those that have their bodies are among these then.
+    fn change_each<'f, C: BodyChange>(
+        &self,
+        files: &[FileToChange<'f>],
+        change: &C,
+        unchanged: &mut Unchanged<'f>,
+    ) {
+        for file in files {
+            if let Err(error) = self.change_file(file, change) {
+                unchanged.push(file.name, error);
+            }
+        }
+    }
+
+    // The same in lanes; those that lanes leave, or all if there are no lanes, one after another.
+    fn change_all<'f, C: BodyChange, W: ChangeCrew>(
+        &self,
+        disk: &HostRuntime,
+        files: &[FileToChange<'f>],
+        change: &C,
+        crew: &W,
+    ) -> Unchanged<'f> {
+        match self.change_in_lanes(disk, files, change, crew) {
+            Ok(left) => {
+                let mut unchanged = Unchanged::none(self.alloc, left.has_more);
+                self.change_each(left.files.as_slice(), change, &mut unchanged);
+                unchanged
+            }
+            Err(_) => {
+                let mut unchanged = Unchanged::none(self.alloc, false);
+                self.change_each(files, change, &mut unchanged);
+                unchanged
+            }
+        }
+    }
+
+    /// Has these files, whose parts were put, have what is to be in place of their bodies. The crew changes them, some side by side, in
+    /// directories of the run's own that stay until [`DiskFolder::end_puts`]; `disk` is the folder's. What fails so is tried once more
+    /// alone. Gives the files that have their bodies as they came then.
+    pub fn change_files<'f, C: BodyChange, W: ChangeCrew>(
+        &mut self,
+        disk: &HostRuntime,
+        files: &[FileToChange<'f>],
+        change: &C,
+        crew: &W,
+    ) -> Unchanged<'f>
         ensures { self.new ≡ self.old }
     {
-        if part.kind == BodyKind::Other {
+        match self.make_own() {
+            Ok(()) => self.change_all(disk, files, change, crew),
+            Err(error) => Unchanged::all(self.alloc, files, error),
+        }
+    }
+
+    // The same of one file alone.
+    fn change_alone<C: BodyChange>(&mut self, file: &FileToChange<'_>, change: &C) -> io::Result<()>
+        ensures { self.new ≡ self.old }
+    {
+        self.make_own()?;
+        self.change_file(file, change)
+    }
+
+    // The same, if bodies of its kind have links. Whether the file has that then; if not, the error is kept.
+    fn is_changed<C: BodyChange>(&mut self, file: &FileToChange<'_>, change: &C) -> bool
+        ensures { self.new ≡ self.old }
+    {
+        if file.part.kind == BodyKind::Other {
             return true;
         }
-        match self.change_file(place, name, part, change) {
+        match self.change_alone(file, change) {
             Ok(()) => true,
             Err(error) => {
                 self.error = Some(error);
                 false
             }
-        }
-    }
-
-    /// As `put_changed_kept`, but a directory in which changed bodies are written stays until [`DiskFolder::end_puts`].
-    pub fn put_changed<C: BodyChange>(
-        &mut self,
-        place: usize,
-        name: &str,
-        part: &KeptPart,
-        change: &C,
-    ) -> Result<bool, FolderFault>
-        ensures { CountsRefusedPut self.old.failed self.new.failed result }
-    {
-        let put = self.put_part(name, part);
-        match self.count(put) {
-            Ok(()) => Ok(self.is_changed(place, name, part, change)),
-            Err(fault) => Err(fault),
         }
     }
 
@@ -273,9 +330,16 @@ where
         kept: &KeptPart,
         change: &C,
     ) -> Result<bool, FolderFault> {
-        let put = self.put_changed(place, name, kept, change);
+        let put = self.put_part(name, kept);
+        self.count(put)?;
+        let file = FileToChange {
+            place,
+            name,
+            part: kept,
+        };
+        let is_changed = self.is_changed(&file, change);
         self.end_puts();
-        put
+        Ok(is_changed)
     }
 }
 
@@ -288,16 +352,15 @@ pub trait NamesParts {
     fn put_part(&mut self, name: &str, part: &KeptPart) -> Result<(), FolderFault>
         ensures { CountsRefusedPut (failed self.old) (failed self.new) result };
 
-    /// The same, and then the file has what is to be in place of its body, which is that of the page at this place. Whether it does:
-    /// if not, it has the body as it came.
-    fn put_changed_part<C: BodyChange>(
+    /// Has these files, whose parts were put, have what is to be in place of their bodies, by the crew. Whether all do: each other one has
+    /// the body as it came.
+    fn change_parts<C: BodyChange, W: ChangeCrew>(
         &mut self,
-        place: usize,
-        name: &str,
-        part: &KeptPart,
+        files: &[FileToChange<'_>],
         change: &C,
-    ) -> Result<bool, FolderFault>
-        ensures { CountsRefusedPut (failed self.old) (failed self.new) result };
+        crew: &W,
+    ) -> bool
+        ensures { failed self.new ≡ failed self.old };
 }
 
 // Puts a part. Gives how many got no name then, of which there were so many.
@@ -333,43 +396,51 @@ pub fn put_parts<D: NamesParts>(
     Ok(())
 }
 
-// How many parts got no name so far, and whether each file has what is to be in place of its body.
+// How many parts got no name so far, and whether each file that was to change at once did.
 #[derive(Clone, Copy)]
 struct SoFar {
     lost: usize,
     are_all: bool,
 }
 
-// Puts a part, and has its file have what is to be in place of its body. Gives what is so then.
-fn put_changed_one<D: NamesParts, C: BodyChange>(
+// Puts a part, whose file is among those that are to change from then on, if bodies of its kind have links. Without memory for that it
+// is changed at once. Gives what is so then.
+fn put_for_change<'s, D: NamesParts, C: BodyChange, W: ChangeCrew>(
     folder: &mut D,
-    place: usize,
-    name: &str,
-    part: &KeptPart,
+    file: FileToChange<'s>,
+    files: &mut Vec<FileToChange<'s>>,
     change: &C,
+    crew: &W,
     so_far: SoFar,
 ) -> SoFar
     ensures { MakesOnePut so_far.lost (D.failed folder.old) (D.failed folder.new) result.lost }
 {
     let SoFar { lost, are_all } = so_far;
-    match folder.put_changed_part(place, name, part, change) {
-        Ok(is_changed) => SoFar {
-            lost,
-            are_all: are_all && is_changed,
-        },
-        Err(_) => SoFar {
+    if folder.put_part(file.name, file.part).is_err() {
+        return SoFar {
             lost: lost.saturating_add(1),
             are_all,
-        },
+        };
+    }
+    if file.part.kind == BodyKind::Other || files.push(file).is_ok() {
+        return so_far;
+    }
+    let is_changed = folder.change_parts(&[file], change, crew);
+    SoFar {
+        lost,
+        are_all: are_all && is_changed,
     }
 }
 
-/// The same as [`put_parts`], but each file has what is to be in place of its body. Whether all have that which got their names.
-pub fn put_changed_parts<D: NamesParts, C: BodyChange>(
+/// The same as [`put_parts`], but each file has what is to be in place of its body, once all have their names. Whether all have that
+/// which got their names. Takes memory for a place and two references for each file that may have links.
+pub fn put_changed_parts<D: NamesParts, C: BodyChange, W: ChangeCrew>(
+    alloc: Global,
     folder: &mut D,
     names: &[String],
     harvest: &Harvest<KeptPart>,
     change: &C,
+    crew: &W,
 ) -> Result<bool, WriteFault>
     requires { length names.now ≡ length harvest.now.kept }
     // As of a folder whose files aren't known.
@@ -377,22 +448,22 @@ pub fn put_changed_parts<D: NamesParts, C: BodyChange>(
     ensures named { IfErr result (AreNamedBy (length names.now) (D.failed folder.old) (D.failed folder.new)) }
     ensures quiet { OnOk result (D.failed folder.new ≡ D.failed folder.old) }
 {
+    let mut files = Vec::new(alloc);
     let mut so_far = SoFar {
         lost: 0,
         are_all: true,
     };
     for (i, name) in names.iter().enumerate() {
-        so_far = put_changed_one(
-            folder,
-            i,
-            name.as_str(),
-            harvest.kept_body(i),
-            change,
-            so_far,
-        );
+        let file = FileToChange {
+            place: i,
+            name: name.as_str(),
+            part: harvest.kept_body(i),
+        };
+        so_far = put_for_change(folder, file, &mut files, change, crew, so_far);
     }
+    let are_changed = folder.change_parts(files.as_slice(), change, crew);
     if so_far.lost > 0 {
         return Err(WriteFault::Device(names.len().saturating_sub(so_far.lost)));
     }
-    Ok(so_far.are_all)
+    Ok(so_far.are_all && are_changed)
 }

@@ -7,5 +7,5 @@ loop-i-init g c = at_first (g.D.NamesParts.failed c.args.folder.now)
 
 pub loop-i-preserved : goal.loop-i-preserved
 loop-i-preserved g c =
-    one_put c.loop-i.so_far.lost c.loop-i.i (g.D.NamesParts.failed c.args.folder.now) (g.D.NamesParts.failed c.loop-i.folder) (g.D.NamesParts.failed c.put_changed_one-so_far.new.folder)
-    c.put_changed_one-so_far.result.lost c.loop-i.invariant c.put_changed_one-so_far.ensures
+    one_put c.loop-i.so_far.lost c.loop-i.i (g.D.NamesParts.failed c.args.folder.now) (g.D.NamesParts.failed c.loop-i.folder) (g.D.NamesParts.failed c.put_for_change-so_far.new.folder)
+    c.put_for_change-so_far.result.lost c.loop-i.invariant c.put_for_change-so_far.ensures
