@@ -16,6 +16,10 @@ use Rattle.html_links.specs.declared.rules.LinkRules.{LinkRules}
 abbrev pub asks_of : {C : Type 0} → Fetching C → List Ask
 asks_of fetcher = fetcher.asks
 
+-- why it lost its last connection, as what makes its connections has it
+abbrev pub lost_of : {C : Type 0} → (C → Option LossKind) → Fetching C → Option LossKind
+lost_of lost fetcher = lost fetcher.connect
+
 -- the answer, whose body is kept somewhere, is one that a site may give for the address within these limits, if these links of pages are taken
 abbrev pub StandsForAnswer : {B : Type 0} → (B → BodyValue → Type 0) → Limited → LinkRules → AddressText → Answer B → Type 0
 StandsForAnswer holds limits links at answer = StandsForOne holds answer (λ real. MayAnswerWithin limits links at real.outcome real.body)

@@ -1,4 +1,8 @@
 //! Fetchers that know of their connections.
+ghost use Rattle.std.specs.Prelude.{◌≡◌, Option};
+ghost use Rattle.run_failures.specs.declared.loss_kind.LossKind.{LossKind};
+ghost use Rattle.retries.specs.Keeping.{lost_of};
+
 use address::Origin;
 use answer_notes::Telling;
 use connect::Connect;
@@ -8,8 +12,12 @@ use std::time::Duration;
 
 /// Asks as any fetcher does, knows why a connection was lost and what time it is, and can leave an origin alone.
 pub trait Calling: Telling {
+    // Why the last connection was lost, if it was.
+    ghost lost: { Self → Option LossKind };
+
     /// Why the last connection was lost, if it was.
-    fn loss(&self) -> Option<LossKind>;
+    fn loss(&self) -> Option<LossKind>
+        ensures { result ≡ lost self.now };
 
     /// The seconds since 1970, if there is a clock that shows them.
     fn now(&self) -> Option<u64>;
@@ -20,8 +28,12 @@ pub trait Calling: Telling {
 
 /// Makes connections as any does, knows why one was lost and what time it is, and can leave an origin alone.
 pub trait CallingConnect: Connect {
+    // Why the last connection was lost, if it was.
+    ghost lost: { Self → Option LossKind };
+
     /// Why the last connection was lost, if it was.
-    fn loss(&self) -> Option<LossKind>;
+    fn loss(&self) -> Option<LossKind>
+        ensures { result ≡ lost self.now };
 
     /// The seconds since 1970, if there is a clock that shows them.
     fn now(&self) -> Option<u64>;
@@ -31,6 +43,8 @@ pub trait CallingConnect: Connect {
 }
 
 impl<C: CallingConnect> Calling for HttpFetcher<C> {
+    ghost lost = { lost_of C.lost };
+
     fn loss(&self) -> Option<LossKind> {
         self.connect().loss()
     }

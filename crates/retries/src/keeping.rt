@@ -3,7 +3,7 @@ ghost use Rattle.std.specs.Prelude.{◌≡◌, IfOk};
 ghost use Rattle.fetcher.specs.declared.fetcher.Ask.TheVariants as ask;
 ghost use Rattle.pacing.specs.Retries.{retries_by};
 ghost use Rattle.response_reader.specs.Limits.{limited};
-ghost use Rattle.retries.specs.Keeping.{MayKeep, asks_of, is_worth_answer};
+ghost use Rattle.retries.specs.Keeping.{MayKeep, asks_of, is_worth_answer, lost_of};
 ghost use Rattle.retries.specs.Tries.{IsLastOf};
 
 use crate::calling::CallingConnect;
@@ -31,7 +31,7 @@ pub fn ask_into<C: CallingConnect, K: Keeper>(
     // Each try has the condition, if there is one.
     ensures sends { inner.new.sends ≡ inner.old.sends }
     ensures told { IfOk result (MayKeep K.holds (limited limits) at.now inner.old) }
-    ensures tries { IfOk result (IsLastOf asks_of (MayKeep K.holds (limited limits) at.now) (is_worth_answer (retries_by retries.now)) (ask.Page at.now) retries.now.most inner.old inner.new) }
+    ensures tries { IfOk result (IsLastOf asks_of (lost_of C.lost) (MayKeep K.holds (limited limits) at.now) (is_worth_answer (retries_by retries.now)) (ask.Page at.now) retries.now.most inner.old inner.new) }
 {
     let mut answer = inner.ask_into(at, sink, limits)?;
     for made in 0..retries.most {

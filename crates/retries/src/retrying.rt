@@ -39,7 +39,7 @@ pub fn tell<F: Calling>(inner: &mut F, retries: &Retries, at: &Address) -> Resul
     ensures site { F.site inner.new ≡ F.site inner.old }
     ensures links { F.links inner.new ≡ F.links inner.old }
     ensures told { IfOk result (λ t. F.says (F.site inner.old) at.now (outcome_told (F.links inner.old) at.now t) (body_told t)) }
-    ensures tries { IfOk result (λ t. IsLastOf F.log (λ f t. F.says (F.site f) at.now (outcome_told (F.links f) at.now t) (body_told t))
+    ensures tries { IfOk result (λ t. IsLastOf F.log F.lost (λ f t. F.says (F.site f) at.now (outcome_told (F.links f) at.now t) (body_told t))
         (is_worth (retries_by retries.now)) (ask.Page at.now) retries.now.most inner.old inner.new t) }
 {
     let mut told = inner.ask_told(at)?;
@@ -64,7 +64,7 @@ pub fn tell_hops<F: Calling>(
     ensures links { F.links inner.new ≡ F.links inner.old }
     ensures of { IfOk result (λ found. found.of ≡ of.now) }
     ensures told { IfOk result (λ found. F.rules (F.site inner.old) of.now (rules_of_hops found.hops)) }
-    ensures tries { IfOk result (λ found. IsLastOf F.log (λ f found. F.rules (F.site f) of.now (rules_of_hops found.hops))
+    ensures tries { IfOk result (λ found. IsLastOf F.log F.lost (λ f found. F.rules (F.site f) of.now (rules_of_hops found.hops))
         (λ found. is_worth_hops (retries_by retries.now) found.hops) (ask.Rules of.now) retries.now.most inner.old inner.new found) }
 {
     let mut hops = inner.ask_hops(of)?;
@@ -89,7 +89,7 @@ fn answer<F: Calling>(
     ensures site { F.site inner.new ≡ F.site inner.old }
     ensures told { IfOk result (λ a. F.says (F.site inner.old) at.now a.outcome a.body) }
     ensures tries { IfOk result (λ a. (t : Told) × (a.outcome ≡ outcome_told (F.links inner.old) at.now t) × (a.body ≡ body_told t)
-        × IsLastOf F.log (λ f t. F.says (F.site f) at.now (outcome_told (F.links f) at.now t) (body_told t)) (is_worth (retries_by retries.now)) (ask.Page at.now) retries.now.most inner.old inner.new t) }
+        × IsLastOf F.log F.lost (λ f t. F.says (F.site f) at.now (outcome_told (F.links f) at.now t) (body_told t)) (is_worth (retries_by retries.now)) (ask.Page at.now) retries.now.most inner.old inner.new t) }
 {
     let told = tell(inner, retries, at)?;
     told.into_answer(alloc, at, inner.link_rules())
@@ -105,7 +105,7 @@ fn rules_of<F: Calling>(
     ensures site { F.site inner.new ≡ F.site inner.old }
     ensures told { IfOk result (λ r. F.rules (F.site inner.old) of.now r) }
     ensures tries { IfOk result (λ r. (found : ChainValue) × (r ≡ rules_of_hops found.hops)
-        × IsLastOf F.log (λ f found. F.rules (F.site f) of.now (rules_of_hops found.hops)) (λ found. is_worth_hops (retries_by retries.now) found.hops) (ask.Rules of.now) retries.now.most inner.old inner.new found) }
+        × IsLastOf F.log F.lost (λ f found. F.rules (F.site f) of.now (rules_of_hops found.hops)) (λ found. is_worth_hops (retries_by retries.now) found.hops) (ask.Rules of.now) retries.now.most inner.old inner.new found) }
 {
     let hops = tell_hops(inner, retries, of)?;
     hops.rules(alloc)
@@ -124,7 +124,7 @@ pub fn ask<F: Calling>(
     ensures told { IfOk result (λ a. F.says (F.site inner.old) at.now a.outcome a.body) }
     ensures once { retries.now.most ≡ 0 → OnOk result (F.log inner.new ≡ F.log inner.old ++ ask.Page at.now ∷ []) }
     ensures tries { 0 < retries.now.most → IfOk result (λ a. (t : Told) × (a.outcome ≡ outcome_told (F.links inner.old) at.now t) × (a.body ≡ body_told t)
-        × IsLastOf F.log (λ f t. F.says (F.site f) at.now (outcome_told (F.links f) at.now t) (body_told t)) (is_worth (retries_by retries.now)) (ask.Page at.now) retries.now.most inner.old inner.new t) }
+        × IsLastOf F.log F.lost (λ f t. F.says (F.site f) at.now (outcome_told (F.links f) at.now t) (body_told t)) (is_worth (retries_by retries.now)) (ask.Page at.now) retries.now.most inner.old inner.new t) }
 {
     if retries.most == 0 {
         return inner.ask(at);
@@ -143,7 +143,7 @@ pub fn ask_robots<F: Calling>(
     ensures told { IfOk result (λ r. F.rules (F.site inner.old) of.now r) }
     ensures once { retries.now.most ≡ 0 → OnOk result (F.log inner.new ≡ F.log inner.old ++ ask.Rules of.now ∷ []) }
     ensures tries { 0 < retries.now.most → IfOk result (λ r. (found : ChainValue) × (r ≡ rules_of_hops found.hops)
-        × IsLastOf F.log (λ f found. F.rules (F.site f) of.now (rules_of_hops found.hops)) (λ found. is_worth_hops (retries_by retries.now) found.hops) (ask.Rules of.now) retries.now.most inner.old inner.new found) }
+        × IsLastOf F.log F.lost (λ f found. F.rules (F.site f) of.now (rules_of_hops found.hops)) (λ found. is_worth_hops (retries_by retries.now) found.hops) (ask.Rules of.now) retries.now.most inner.old inner.new found) }
 {
     if retries.most == 0 {
         return inner.ask_robots(of);

@@ -4,15 +4,17 @@ use Rattle.address.specs.Address.{OriginText}
 use Rattle.address.specs.declared.scheme.Scheme.{Scheme}
 use Rattle.address.specs.declared.scheme.Scheme.TheVariants.{Http, Https}
 use Rattle.requests.specs.Proxies.{Proxy}
+use Rattle.run_failures.specs.declared.loss_kind.LossKind.{LossKind}
 
 -- how many connections were requested, how many calls answered an error, how many of these `Failed`, how many connections that were
--- kept were taken, and how many may be open to a server, if they are kept
+-- kept were taken, how many may be open to a server, if they are kept, and why the last connection was lost, if it was
 pub record Connecting : Type 0 where
   pub made : ℕ
   pub failed : ℕ
   pub refused : ℕ
   pub taken : ℕ
   pub most : Option ℕ
+  pub lost : Option LossKind
 
 -- the server of an origin itself, which is connected to without a proxy: there is none of https, since no TLS is spoken here
 abbrev pub server_itself : Scheme → OriginText → Option OriginText

@@ -1,2 +1,3 @@
 pub mod Connecting
+pub mod Losses
 pub mod Standing

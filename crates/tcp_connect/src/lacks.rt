@@ -1,4 +1,8 @@
 //! What the system may be short of for a connection, and how long it is waited for.
+ghost use Rattle.std.specs.Prelude.{◌≡◌};
+ghost use Rattle.std.specs.IoError.{error_kind};
+ghost use Rattle.tcp_connect.specs.Losses.{answer_by, loss_by, loss_without, lost_by};
+
 use connect::ConnectFault;
 use run_failures::LossKind;
 use std::alloc::{AllocError, Global};
@@ -61,7 +65,9 @@ impl Lack {
     }
 
     // What a connection is lost for that isn't made without it.
-    pub(crate) fn loss(self) -> LossKind {
+    pub(crate) fn loss(self) -> LossKind
+        ensures { result ≡ loss_without self }
+    {
         match self {
             Lack::Descriptor => LossKind::Descriptor,
             Lack::Port | Lack::Address => LossKind::Port,
@@ -94,7 +100,9 @@ impl From<AllocError> for OpenFault {
 
 impl OpenFault {
     // What is reported of it. A shortage is waited for first.
-    pub(crate) fn told(self) -> ConnectFault {
+    pub(crate) fn told(self) -> ConnectFault
+        ensures { result ≡ answer_by self }
+    {
         match self {
             OpenFault::Failed(_) | OpenFault::Lacking(_) => ConnectFault::Failed,
             OpenFault::Memory => ConnectFault::Memory,
@@ -102,7 +110,9 @@ impl OpenFault {
     }
 
     // Why a connection is lost by it; running out of memory loses none.
-    pub(crate) fn loss(self) -> Option<LossKind> {
+    pub(crate) fn loss(self) -> Option<LossKind>
+        ensures { result ≡ lost_by self }
+    {
         match self {
             OpenFault::Failed(kind) => Some(kind),
             OpenFault::Lacking(lack) => Some(lack.loss()),
@@ -129,7 +139,9 @@ pub(crate) fn lack_of(e: &Error) -> Option<Lack> {
 }
 
 // Why a connection is lost if a call failed so.
-pub(crate) fn loss_of(e: &Error) -> LossKind {
+pub(crate) fn loss_of(e: &Error) -> LossKind
+    ensures { result ≡ loss_by (error_kind e.now) }
+{
     match e.kind() {
         ErrorKind::ConnectionRefused => LossKind::Refused,
         ErrorKind::TimedOut => LossKind::TimedOut,

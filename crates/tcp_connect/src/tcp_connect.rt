@@ -1,8 +1,9 @@
 //! Connections over TCP.
-ghost use Rattle.std.specs.Prelude.{◌≡◌, ◌++◌, ⊤, IfOk, IfSome, None, Some, codes, option_map};
+ghost use Rattle.std.specs.Prelude.{◌≡◌, ◌++◌, ⊤, IfOk, IfSome, MatchOption, None, Some, codes, option_map};
 ghost use Rattle.address.specs.Address.{host_of, scheme_of};
 ghost use Rattle.requests.specs.Proxies.{proxy_for};
 ghost use Rattle.tcp_connect.specs.Connecting.{server_by, server_itself};
+ghost use Rattle.tcp_connect.specs.Losses.{MayBreak, TellsLoss, lost_with};
 ghost use Rattle.response_reader.specs.Wire.{CountsFault, counted};
 ghost use Rattle.connect.specs.Connects.{CountsRefusal, refused_by};
 
@@ -68,7 +69,7 @@ impl<'a, R: Net + Wait + Clock> Model for TcpConnect<'a, R> {
 
     ghost Value = { Connecting };
 
-    ghost view = { λ c. record { made = c.made; failed = c.failed; refused = c.refused; taken = c.taken; most = option_map (λ k. k.most) c.keeping } };
+    ghost view = { λ c. record { made = c.made; failed = c.failed; refused = c.refused; taken = c.taken; most = option_map (λ k. k.most) c.keeping; lost = c.loss } };
 }
 
 // The server of an origin itself, which is connected to without a proxy: there is none of https.
@@ -230,7 +231,7 @@ fn end<R: Net + Wait>(rt: &R, hosts: &Hosts, late: &mut Vec<SocketAddr>, mut str
 impl<'a, R: Net + Wait + Clock> TcpConnect<'a, R> {
     /// Makes connections by this handle, with what the run knows of hosts. Takes no memory.
     pub fn new(rt: &'a R, alloc: Global, hosts: &'a Hosts) -> TcpConnect<'a, R>
-        ensures { result ≡ record { made = 0; failed = 0; refused = 0; taken = 0; most = None } }
+        ensures { result ≡ record { made = 0; failed = 0; refused = 0; taken = 0; most = None; lost = None } }
     {
         TcpConnect {
             rt,
@@ -251,7 +252,9 @@ impl<'a, R: Net + Wait + Clock> TcpConnect<'a, R> {
 
     /// Why the connection that was last requested or taken was lost: it wasn't made, or it broke by the time when it was ended. None
     /// if neither is so, or memory ran out.
-    pub fn loss(&self) -> Option<LossKind> {
+    pub fn loss(&self) -> Option<LossKind>
+        ensures { result ≡ self.now.lost }
+    {
         self.loss
     }
 
@@ -488,7 +491,7 @@ impl<'a, R: Net + Wait + Clock> TcpConnect<'a, R> {
 
     // Ends a connection, and leaves its place. One that failed says nothing of how the server ends it: it is ended at once.
     fn end_parts(&mut self, stream: Option<R::Stream>, place: Option<PlaceInUse<'a, R::Stream>>)
-        ensures { self.new ≡ self.old }
+        ensures { self.new ≡ record self.old { lost = lost_with stream self.old.lost } }
     {
         match stream {
             Some(stream) => end(self.rt, self.hosts, &mut self.late, stream),
@@ -500,7 +503,7 @@ impl<'a, R: Net + Wait + Clock> TcpConnect<'a, R> {
 
     // Keeps a connection that was made for an origin in its place, or ends it: one that failed isn't kept.
     fn put_down(&mut self, of: Origin, stream: Option<R::Stream>, place: PlaceInUse<'a, R::Stream>)
-        ensures { self.new ≡ self.old }
+        ensures { self.new ≡ record self.old { lost = lost_with stream self.old.lost } }
     {
         self.end_stale(place.kept());
         match stream {
@@ -517,7 +520,8 @@ impl<'a, R: Net + Wait + Clock> TcpConnect<'a, R> {
 
     // Ends a connection.
     fn end_wire(&mut self, wire: TcpWire<Connection<'a, R>>)
-        ensures { self.new ≡ self.old }
+        ensures same { self.new ≡ record self.old { lost = self.new.lost } }
+        ensures lost { MayBreak self.old.lost self.new.lost }
     {
         let has_unasked = wire.has_unasked();
         let connection = wire.into_stream();
@@ -556,7 +560,14 @@ impl<'a, R: Net + Wait + Clock> Connect for TcpConnect<'a, R> {
 
     ghost taken = { λ c. c.taken };
 
-    fn connect(&mut self, of: &Origin) -> Result<TcpWire<Connection<'a, R>>, ConnectFault> {
+    fn connect(&mut self, of: &Origin) -> Result<TcpWire<Connection<'a, R>>, ConnectFault>
+        ensures given { IfOk result (λ _. ⊤) }
+        ensures made { self.new.made ≡ counted self.old.made 1 }
+        ensures counted { CountsFault self.old.failed self.new.failed result }
+        ensures refused { CountsRefusal self.old.refused self.new.refused result }
+        ensures taken { self.new.taken ≡ self.old.taken }
+        ensures lost { TellsLoss result self.new.lost }
+    {
         self.made = self.made.saturating_add(1);
         self.loss = None;
         match self.make(of) {
@@ -570,7 +581,14 @@ impl<'a, R: Net + Wait + Clock> Connect for TcpConnect<'a, R> {
         }
     }
 
-    fn take(&mut self, of: &Origin) -> Option<TcpWire<Connection<'a, R>>> {
+    fn take(&mut self, of: &Origin) -> Option<TcpWire<Connection<'a, R>>>
+        ensures given { IfSome result (λ _. ⊤) }
+        ensures made { self.new.made ≡ self.old.made }
+        ensures failed { self.new.failed ≡ self.old.failed }
+        ensures refused { self.new.refused ≡ self.old.refused }
+        ensures taken { MatchOption result (self.new.taken ≡ self.old.taken) (λ _. self.new.taken ≡ counted self.old.taken 1) }
+        ensures lost { MatchOption result (self.new.lost ≡ self.old.lost) (λ _. self.new.lost ≡ None) }
+    {
         let kept = self.kept()?;
         self.begin(of).ok()?;
         let Some(connection) = self.next_kept(kept, of) else {
@@ -591,7 +609,10 @@ impl<'a, R: Net + Wait + Clock> Connect for TcpConnect<'a, R> {
         }
     }
 
-    fn close(&mut self, wire: TcpWire<Connection<'a, R>>) {
+    fn close(&mut self, wire: TcpWire<Connection<'a, R>>)
+        ensures same { self.new ≡ record self.old { lost = self.new.lost } }
+        ensures lost { MayBreak self.old.lost self.new.lost }
+    {
         self.end_wire(wire);
     }
 

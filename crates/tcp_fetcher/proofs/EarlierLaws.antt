@@ -17,6 +17,7 @@ use Rattle.mirror_index.specs.declared.entry.Mark.TheVariants.{Changed, Digest}
 use Rattle.part_keeper.specs.Parts.{holds_part, holds_received}
 use Rattle.part_keeper.specs.declared.part.KeptPart.{KeptPart}
 use Rattle.pacing.specs.Retries.{Retried}
+use Rattle.run_failures.specs.declared.loss_kind.LossKind.{LossKind}
 use Rattle.requests.specs.Conditions.{Condition}
 use Rattle.requests.specs.Requests.{Sending}
 use Rattle.response_reader.specs.Limits.{Limited}
@@ -57,7 +58,7 @@ pub stands_received : (limits : Limited) (links : LinkRules) (at : AddressText) 
     → StandsForAnswer holds_received limits links at answer → StandsForAnswer holds_part limits links at answer
 stands_received limits links at answer (real, (outcome, (holds, received)), may) = (real, (outcome, holds), may)
 
-module _ {C : Type 0} (limits : Limited) (at : AddressText) (retries : Retried) (ask : Ask) where
+module _ {C : Type 0} (lost : Fetching C → Option LossKind) (limits : Limited) (at : AddressText) (retries : Retried) (ask : Ask) where
   bare : List (Answer (Digested KeptPart) × Fetching C) → List (Answer KeptPart × Fetching C)
   bare [] = []
   bare (e ∷ es) = (without_digest e.0, e.1) ∷ bare es
@@ -68,8 +69,8 @@ module _ {C : Type 0} (limits : Limited) (at : AddressText) (retries : Retried) 
   bare_length (e ∷ es) = ap suc (bare_length es)
 
   tries_without : (old : Fetching C) (earlier : List (Answer (Digested KeptPart) × Fetching C)) (new : Fetching C) (answer : Answer (Digested KeptPart))
-      → AreTries asks_of (MayKeep (HoldsDigested holds_received) limits at) (is_worth_answer retries) ask old earlier new answer
-      → AreTries asks_of (MayKeep holds_received limits at) (is_worth_answer retries) ask old (bare earlier) new (without_digest answer)
+      → AreTries asks_of lost (MayKeep (HoldsDigested holds_received) limits at) (is_worth_answer retries) ask old earlier new answer
+      → AreTries asks_of lost (MayKeep holds_received limits at) (is_worth_answer retries) ask old (bare earlier) new (without_digest answer)
   unfolding bare
   tries_without old [] new answer tries = (tries.0, stands_without limits old.links at answer tries.1)
   tries_without old (e ∷ es) new answer tries =
@@ -77,8 +78,8 @@ module _ {C : Type 0} (limits : Limited) (at : AddressText) (retries : Retried) 
 
   -- what is received last is so without its digest
   pub last_without : (most : ℕ) (old new : Fetching C) (answer : Answer (Digested KeptPart))
-      → IsLastOf asks_of (MayKeep (HoldsDigested holds_received) limits at) (is_worth_answer retries) ask most old new answer
-      → IsLastOf asks_of (MayKeep holds_received limits at) (is_worth_answer retries) ask most old new (without_digest answer)
+      → IsLastOf asks_of lost (MayKeep (HoldsDigested holds_received) limits at) (is_worth_answer retries) ask most old new answer
+      → IsLastOf asks_of lost (MayKeep holds_received limits at) (is_worth_answer retries) ask most old new (without_digest answer)
   last_without most old new answer (earlier, tries, few, inl worthless) =
       (bare earlier, tries_without old earlier new answer tries, subst (λ n. n ≤ most) (sym (bare_length earlier)) few, inl worthless)
   last_without most old new answer (earlier, tries, few, inr all) =

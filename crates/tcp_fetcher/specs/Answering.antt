@@ -28,7 +28,7 @@ use Rattle.retries.specs.Keeping.{MayKeep, StandsForAnswer, asks_of, is_worth_an
 use Rattle.retries.specs.Tries.{IsLastOf}
 use Rattle.tcp_connect.specs.Connecting.{Connecting}
 use Rattle.tcp_fetcher.specs.PartsFetching.{MayAnswerIn, PartsSite}
-use Rattle.tcp_fetcher.specs.TcpFetching.{TcpFetching, conditioned}
+use Rattle.tcp_fetcher.specs.TcpFetching.{TcpFetching, conditioned, last_loss}
 use Rattle.tcp_fetcher.specs.declared.earlier.Earlier.{Earlier}
 
 -- what requests leave as it is: all but the connections, and a condition of what is sent
@@ -102,7 +102,7 @@ module _ (fetcher : Lasting) (at : AddressText) where
   -- body counts as received
   abbrev pub IsReceived : Fetching Connecting → Fetching Connecting → Answer KeptPart → Type 0
   IsReceived old new answer =
-      IsLastOf asks_of (MayKeep holds_received fetcher.limits at) (is_worth_answer fetcher.retries) (ask.Page at) fetcher.retries.most old new answer
+      IsLastOf asks_of last_loss (MayKeep holds_received fetcher.limits at) (is_worth_answer fetcher.retries) (ask.Page at) fetcher.retries.most old new answer
 
   -- the page is requested with this condition, and this is received last; there is no condition from then on
   abbrev pub IsReceivedUnder : Condition → Fetching Connecting → Fetching Connecting → Answer KeptPart → Type 0

@@ -7,6 +7,8 @@ use Rattle.http_fetcher.specs.Fetching.{Fetching, with_condition}
 use Rattle.tcp_fetcher.specs.declared.earlier.Earlier.{Earlier}
 use Rattle.tcp_connect.specs.Connecting.{Connecting}
 use Rattle.pacing.specs.Retries.{Retried}
+use Rattle.retries.specs.Keeping.{lost_of}
+use Rattle.run_failures.specs.declared.loss_kind.LossKind.{LossKind}
 use Rattle.response_reader.specs.Limits.{Limited}
 use Rattle.html_links.specs.declared.rules.LinkRules.{LinkRules}
 
@@ -24,6 +26,10 @@ pub record TcpFetching : Type 0 where
   pub asks : List Ask
   pub single : Fetching Connecting
   pub known : Option Earlier
+
+-- why one that asks once lost its last connection, if it did
+abbrev pub last_loss : Fetching Connecting → Option LossKind
+last_loss = lost_of (λ connections. connections.lost)
 
 -- one that asks once, with this condition
 abbrev pub conditioned : {C : Type 0} → Option Condition → Fetching C → Fetching C

@@ -11,7 +11,7 @@ ghost use Rattle.response_reader.specs.Limits.{limited};
 ghost use Rattle.retries.specs.Keeping.{MayKeep, StandsForAnswer, asks_of, is_worth_answer};
 ghost use Rattle.retries.specs.Tries.{IsLastOf};
 ghost use Rattle.retries.specs.Worth.{is_worth, is_worth_hops};
-ghost use Rattle.tcp_fetcher.specs.TcpFetching.{conditioned};
+ghost use Rattle.tcp_fetcher.specs.TcpFetching.{conditioned, last_loss};
 
 use crate::watched_tcp::WatchedTcp;
 use address::{Address, Origin};
@@ -160,7 +160,9 @@ impl<'a, R: Net + Wait + Clock + Eprint> OverTcp<'a, R> {
     }
 
     /// Why the last connection was lost, if it was.
-    pub fn loss(&self) -> Option<LossKind> {
+    pub fn loss(&self) -> Option<LossKind>
+        ensures { result ≡ last_loss self.now.single }
+    {
         self.inner.loss()
     }
 
@@ -179,7 +181,7 @@ impl<'a, R: Net + Wait + Clock + Eprint> OverTcp<'a, R> {
         ensures of { IfOk result (λ found. found.of ≡ of.now) }
         ensures told { IfOk result (λ found. MayRule self.old.links of.now (rules_of_hops found.hops)) }
         ensures asks { self.new.asks ≡ self.old.asks }
-        ensures tries { IfOk result (λ found. IsLastOf (λ f. f.asks) (λ f found. MayRule f.links of.now (rules_of_hops found.hops))
+        ensures tries { IfOk result (λ found. IsLastOf (λ f. f.asks) last_loss (λ f found. MayRule f.links of.now (rules_of_hops found.hops))
             (λ found. is_worth_hops self.old.retries found.hops) (ask.Rules of.now) self.old.retries.most self.old.single self.new.single found) }
         ensures retries { self.new.retries ≡ self.old.retries }
         ensures limits { self.new.limits ≡ self.old.limits }
@@ -196,7 +198,7 @@ impl<'a, R: Net + Wait + Clock + Eprint> OverTcp<'a, R> {
         ensures asks { self.new.asks ≡ self.old.asks }
         ensures once { self.old.retries.most ≡ 0 → OnOk result (self.new.single.asks ≡ self.old.single.asks ++ ask.Rules of.now ∷ []) }
         ensures tries { IfOk result (λ r. (found : ChainValue) × (r ≡ rules_of_hops found.hops)
-            × IsLastOf (λ f. f.asks) (λ f found. MayRule f.links of.now (rules_of_hops found.hops)) (λ found. is_worth_hops self.old.retries found.hops) (ask.Rules of.now) self.old.retries.most self.old.single self.new.single found) }
+            × IsLastOf (λ f. f.asks) last_loss (λ f found. MayRule f.links of.now (rules_of_hops found.hops)) (λ found. is_worth_hops self.old.retries found.hops) (ask.Rules of.now) self.old.retries.most self.old.single self.new.single found) }
         ensures retries { self.new.retries ≡ self.old.retries }
         ensures limits { self.new.limits ≡ self.old.limits }
     {
@@ -213,7 +215,7 @@ impl<'a, R: Net + Wait + Clock + Eprint> OverTcp<'a, R> {
         ensures site { self.new.links ≡ self.old.links }
         ensures told { IfOk result (StandsForAnswer K.holds self.old.limits self.old.links at.now) }
         ensures asks { self.new.asks ≡ self.old.asks }
-        ensures tries { IfOk result (IsLastOf asks_of (MayKeep K.holds self.old.limits at.now) (is_worth_answer self.old.retries) (ask.Page at.now) self.old.retries.most self.old.single self.new.single) }
+        ensures tries { IfOk result (IsLastOf asks_of last_loss (MayKeep K.holds self.old.limits at.now) (is_worth_answer self.old.retries) (ask.Page at.now) self.old.retries.most self.old.single self.new.single) }
         ensures retries { self.new.retries ≡ self.old.retries }
         ensures limits { self.new.limits ≡ self.old.limits }
         ensures takes_times { self.new.takes_times ≡ self.old.takes_times }
@@ -247,7 +249,7 @@ impl<'a, R: Net + Wait + Clock + Eprint> Fetcher for OverTcp<'a, R> {
         // The network is asked once, or again if that is worth it; what is received last is the answer.
         ensures once { self.old.retries.most ≡ 0 → OnOk result (self.new.single.asks ≡ self.old.single.asks ++ ask.Page at.now ∷ []) }
         ensures tries { 0 < self.old.retries.most → IfOk result (λ a. (t : Told) × (a.outcome ≡ outcome_told self.old.links at.now t) × (a.body ≡ body_told t)
-            × IsLastOf (λ f. f.asks) (λ f t. MayAnswer f.links at.now (outcome_told f.links at.now t) (body_told t)) (is_worth self.old.retries) (ask.Page at.now) self.old.retries.most self.old.single self.new.single t) }
+            × IsLastOf (λ f. f.asks) last_loss (λ f t. MayAnswer f.links at.now (outcome_told f.links at.now t) (body_told t)) (is_worth self.old.retries) (ask.Page at.now) self.old.retries.most self.old.single self.new.single t) }
         ensures retries { self.new.retries ≡ self.old.retries }
         ensures limits { self.new.limits ≡ self.old.limits }
     {
@@ -262,7 +264,7 @@ impl<'a, R: Net + Wait + Clock + Eprint> Fetcher for OverTcp<'a, R> {
         ensures refused { OnErr result (GainedAtMost self.old.asks self.new.asks (ask.Rules of.now)) }
         ensures once { self.old.retries.most ≡ 0 → OnOk result (self.new.single.asks ≡ self.old.single.asks ++ ask.Rules of.now ∷ []) }
         ensures tries { 0 < self.old.retries.most → IfOk result (λ r. (found : ChainValue) × (r ≡ rules_of_hops found.hops)
-            × IsLastOf (λ f. f.asks) (λ f found. MayRule f.links of.now (rules_of_hops found.hops)) (λ found. is_worth_hops self.old.retries found.hops) (ask.Rules of.now) self.old.retries.most self.old.single self.new.single found) }
+            × IsLastOf (λ f. f.asks) last_loss (λ f found. MayRule f.links of.now (rules_of_hops found.hops)) (λ found. is_worth_hops self.old.retries found.hops) (ask.Rules of.now) self.old.retries.most self.old.single self.new.single found) }
         ensures retries { self.new.retries ≡ self.old.retries }
         ensures limits { self.new.limits ≡ self.old.limits }
     {
@@ -291,7 +293,7 @@ impl<'a, R: Net + Wait + Clock + Eprint> Telling for OverTcp<'a, R> {
         ensures told { IfOk result (λ t. MayAnswer self.old.links at.now (outcome_told self.old.links at.now t) (body_told t)) }
         ensures asked { OnOk result (self.new.asks ≡ self.old.asks ++ ask.Page at.now ∷ []) }
         ensures refused { OnErr result (GainedAtMost self.old.asks self.new.asks (ask.Page at.now)) }
-        ensures tries { IfOk result (λ t. IsLastOf (λ f. f.asks) (λ f t. MayAnswer f.links at.now (outcome_told f.links at.now t) (body_told t))
+        ensures tries { IfOk result (λ t. IsLastOf (λ f. f.asks) last_loss (λ f t. MayAnswer f.links at.now (outcome_told f.links at.now t) (body_told t))
             (is_worth self.old.retries) (ask.Page at.now) self.old.retries.most self.old.single self.new.single t) }
         ensures retries { self.new.retries ≡ self.old.retries }
         ensures limits { self.new.limits ≡ self.old.limits }
@@ -307,7 +309,7 @@ impl<'a, R: Net + Wait + Clock + Eprint> Telling for OverTcp<'a, R> {
         ensures told { IfOk result (λ found. MayRule self.old.links of.now (rules_of_hops found.hops)) }
         ensures asked { OnOk result (self.new.asks ≡ self.old.asks ++ ask.Rules of.now ∷ []) }
         ensures refused { OnErr result (GainedAtMost self.old.asks self.new.asks (ask.Rules of.now)) }
-        ensures tries { IfOk result (λ found. IsLastOf (λ f. f.asks) (λ f found. MayRule f.links of.now (rules_of_hops found.hops))
+        ensures tries { IfOk result (λ found. IsLastOf (λ f. f.asks) last_loss (λ f found. MayRule f.links of.now (rules_of_hops found.hops))
             (λ found. is_worth_hops self.old.retries found.hops) (ask.Rules of.now) self.old.retries.most self.old.single self.new.single found) }
         ensures retries { self.new.retries ≡ self.old.retries }
         ensures limits { self.new.limits ≡ self.old.limits }

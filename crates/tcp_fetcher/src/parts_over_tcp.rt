@@ -7,6 +7,7 @@ ghost use Rattle.http_fetcher.specs.Fetching.{with_condition};
 ghost use Rattle.response_reader.specs.Limits.{limited};
 ghost use Rattle.tcp_fetcher.specs.Answering.{HasMark, IsAnswered, IsConcluded, IsLeft, IsReceived, IsReceivedIfChanged, IsReceivedUnder, IsReadAgain, IsRecorded, IsTold, has_status, is_unchanged, lasting, not_received, without_digest};
 ghost use Rattle.tcp_fetcher.specs.PartsFetching.{MayAnswerIn, MayRuleIn, PartsSite, parts_site};
+ghost use Rattle.tcp_fetcher.specs.TcpFetching.{last_loss};
 
 use crate::earlier::{Earlier, IndexNote};
 use crate::over_tcp::OverTcp;
@@ -348,7 +349,9 @@ where
     }
 
     /// Why the last connection was lost, if the last request was over one and that was lost.
-    pub fn loss(&self) -> Option<LossKind> {
+    pub fn loss(&self) -> Option<LossKind>
+        ensures { IfSome result (λ kind. last_loss self.now.single ≡ Some kind) }
+    {
         if self.is_requested {
             self.inner.loss()
         } else {

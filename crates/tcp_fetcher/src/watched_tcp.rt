@@ -54,7 +54,7 @@ impl<'a, R: Net + Wait + Clock> Model for WatchedTcpWire<'a, R> {
 }
 
 impl<'a, R: Net + Wait + Clock + Eprint> WatchedTcp<'a, R> {
-    ghost use Rattle.std.specs.Prelude.{◌≡◌};
+    ghost use Rattle.std.specs.Prelude.{◌≡◌, None};
 
     // Connections are kept if it is said how many to a server may be open at a time. Takes no memory.
     pub(crate) fn new(
@@ -67,7 +67,7 @@ impl<'a, R: Net + Wait + Clock + Eprint> WatchedTcp<'a, R> {
         proxies: Proxies,
         manner: Manner,
     ) -> WatchedTcp<'a, R>
-        ensures { result ≡ record { made = 0; failed = 0; refused = 0; taken = 0; most = most } }
+        ensures { result ≡ record { made = 0; failed = 0; refused = 0; taken = 0; most = most; lost = None } }
     {
         let connect = TcpConnect::new(rt, alloc, hosts)
             .through(proxies)
@@ -146,6 +146,8 @@ impl<'a, R: Net + Wait + Clock + Eprint> Connect for WatchedTcp<'a, R> {
 }
 
 impl<'a, R: Net + Wait + Clock + Eprint> CallingConnect for WatchedTcp<'a, R> {
+    ghost lost = { λ c. c.lost };
+
     fn loss(&self) -> Option<LossKind> {
         self.inner.inner().loss()
     }

@@ -1,5 +1,5 @@
 -- One more try follows what was worth it, and what isn't is the last.
-use Rattle.std.proofs.Common.{◌∙◌, arith, subst, sym}
+use Rattle.std.proofs.Common.{◌∙◌, ap, arith, subst, sym}
 use Rattle.fetcher.specs.declared.fetcher.Ask.TheVariants as ask
 use Rattle.answer_notes.specs.Tellings.{outcome_told, body_told}
 use Rattle.pacing.specs.Retries.{retries_by}
@@ -12,7 +12,7 @@ loop-made-init g c = record {
   site = c.in_ok-told.ensures.site;
   links = c.in_ok-told.ensures.links;
   told = c.in_ok-told.ensures.told;
-  tries = first g.F.Fetcher.log (λ f t. g.F.Fetcher.says (g.F.Fetcher.site f) c.args.at.now (outcome_told (g.F.Telling.links f) c.args.at.now t) (body_told t)) (is_worth (retries_by c.args.retries.now)) (ask.Page c.args.at.now) c.args.inner.now c.ask_told.new.self c.in_ok-told.told (c.in_ok-told.ensures.asked, c.in_ok-told.ensures.told);
+  tries = first g.F.Fetcher.log g.F.Calling.lost (λ f t. g.F.Fetcher.says (g.F.Fetcher.site f) c.args.at.now (outcome_told (g.F.Telling.links f) c.args.at.now t) (body_told t)) (is_worth (retries_by c.args.retries.now)) (ask.Page c.args.at.now) c.args.inner.now c.ask_told.new.self c.in_ok-told.told (c.in_ok-told.ensures.asked, c.in_ok-told.ensures.told);
 }
 
 pub loop-made-preserved : goal.loop-made-preserved
@@ -23,8 +23,8 @@ loop-made-preserved g c =
       links = c.in_ok-told-2.ensures.links ∙ inv.links;
       told = subst (λ s. g.F.Fetcher.says s c.args.at.now (outcome_told (g.F.Telling.links c.args.inner.now) c.args.at.now c.in_ok-told-2.told) (body_told c.in_ok-told-2.told)) inv.site
           (subst (λ h. g.F.Fetcher.says (g.F.Fetcher.site c.loop-made.inner) c.args.at.now (outcome_told h c.args.at.now c.in_ok-told-2.told) (body_told c.in_ok-told-2.told)) inv.links c.in_ok-told-2.ensures.told);
-      tries = goes_on g.F.Fetcher.log (λ f t. g.F.Fetcher.says (g.F.Fetcher.site f) c.args.at.now (outcome_told (g.F.Telling.links f) c.args.at.now t) (body_told t)) (is_worth (retries_by c.args.retries.now)) (ask.Page c.args.at.now) c.loop-made.made c.args.inner.now c.loop-made.inner c.ask_told-in-loop-made.new.self c.loop-made.told c.in_ok-told-2.told
-          c.loss.result inv.tries (sym c.is_worth.ensures ∙ c.if-not-is_worth.false) (c.in_ok-told-2.ensures.asked, c.in_ok-told-2.ensures.told);
+      tries = goes_on g.F.Fetcher.log g.F.Calling.lost (λ f t. g.F.Fetcher.says (g.F.Fetcher.site f) c.args.at.now (outcome_told (g.F.Telling.links f) c.args.at.now t) (body_told t)) (is_worth (retries_by c.args.retries.now)) (ask.Page c.args.at.now) c.loop-made.made c.args.inner.now c.loop-made.inner c.ask_told-in-loop-made.new.self c.loop-made.told c.in_ok-told-2.told
+          inv.tries (sym (c.is_worth.ensures ∙ ap (is_worth (retries_by c.args.retries.now) c.loop-made.told) c.loss.ensures) ∙ c.if-not-is_worth.false) (c.in_ok-told-2.ensures.asked, c.in_ok-told-2.ensures.told);
     }
 
 pub returns-then-not-is_worth : goal.returns-then-not-is_worth
@@ -32,8 +32,8 @@ returns-then-not-is_worth g c = record {
   site = c.loop-made.invariant.site;
   links = c.loop-made.invariant.links;
   told = c.loop-made.invariant.told;
-  tries = stops g.F.Fetcher.log (λ f t. g.F.Fetcher.says (g.F.Fetcher.site f) c.args.at.now (outcome_told (g.F.Telling.links f) c.args.at.now t) (body_told t)) (is_worth (retries_by c.args.retries.now)) (ask.Page c.args.at.now) c.loop-made.made c.args.retries.now.most c.args.inner.now c.loop-made.inner c.loop-made.told
-      c.loss.result c.loop-made.invariant.tries (sym c.is_worth.ensures ∙ c.if-not-is_worth.true) (omega (arith, c.loop-made-test.true));
+  tries = stops g.F.Fetcher.log g.F.Calling.lost (λ f t. g.F.Fetcher.says (g.F.Fetcher.site f) c.args.at.now (outcome_told (g.F.Telling.links f) c.args.at.now t) (body_told t)) (is_worth (retries_by c.args.retries.now)) (ask.Page c.args.at.now) c.loop-made.made c.args.retries.now.most c.args.inner.now c.loop-made.inner c.loop-made.told
+      c.loop-made.invariant.tries (sym (c.is_worth.ensures ∙ ap (is_worth (retries_by c.args.retries.now) c.loop-made.told) c.loss.ensures) ∙ c.if-not-is_worth.true) (omega (arith, c.loop-made-test.true));
 }
 
 pub returns : goal.returns
@@ -41,6 +41,6 @@ returns g c = record {
   site = c.loop-made.invariant.site;
   links = c.loop-made.invariant.links;
   told = c.loop-made.invariant.told;
-  tries = ends g.F.Fetcher.log (λ f t. g.F.Fetcher.says (g.F.Fetcher.site f) c.args.at.now (outcome_told (g.F.Telling.links f) c.args.at.now t) (body_told t)) (is_worth (retries_by c.args.retries.now)) (ask.Page c.args.at.now) c.loop-made.made c.args.retries.now.most c.args.inner.now c.loop-made.inner c.loop-made.told
+  tries = ends g.F.Fetcher.log g.F.Calling.lost (λ f t. g.F.Fetcher.says (g.F.Fetcher.site f) c.args.at.now (outcome_told (g.F.Telling.links f) c.args.at.now t) (body_told t)) (is_worth (retries_by c.args.retries.now)) (ask.Page c.args.at.now) c.loop-made.made c.args.retries.now.most c.args.inner.now c.loop-made.inner c.loop-made.told
       c.loop-made.invariant.tries (omega (arith, c.loop-made-test.false, c.loop-made.auto.made-end));
 }

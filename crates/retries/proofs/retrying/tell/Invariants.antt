@@ -12,5 +12,5 @@ invariant-loop-made g l = record {
   site : g.F.Fetcher.site l.inner ≡ g.F.Fetcher.site l.fn.inner;
   links : g.F.Telling.links l.inner ≡ g.F.Telling.links l.fn.inner;
   told : g.F.Fetcher.says (g.F.Fetcher.site l.fn.inner) l.at (outcome_told (g.F.Telling.links l.fn.inner) l.at l.told) (body_told l.told);
-  tries : TriesSoFar g.F.Fetcher.log (λ f t. g.F.Fetcher.says (g.F.Fetcher.site f) l.at (outcome_told (g.F.Telling.links f) l.at t) (body_told t)) (is_worth (retries_by l.retries)) (ask.Page l.at) l.made l.fn.inner l.inner l.told;
+  tries : TriesSoFar g.F.Fetcher.log g.F.Calling.lost (λ f t. g.F.Fetcher.says (g.F.Fetcher.site f) l.at (outcome_told (g.F.Telling.links f) l.at t) (body_told t)) (is_worth (retries_by l.retries)) (ask.Page l.at) l.made l.fn.inner l.inner l.told;
 }

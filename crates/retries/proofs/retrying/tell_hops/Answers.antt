@@ -1,5 +1,5 @@
 -- One more try follows what was worth it, and what isn't is the last.
-use Rattle.std.proofs.Common.{◌∙◌, arith, subst, sym}
+use Rattle.std.proofs.Common.{◌∙◌, ap, arith, subst, sym}
 use Rattle.fetcher.specs.declared.fetcher.Ask.TheVariants as ask
 use Rattle.answer_notes.specs.HopChains.{rules_of_hops}
 use Rattle.pacing.specs.Retries.{retries_by}
@@ -13,7 +13,7 @@ loop-made-init g c = record {
   links = c.in_ok-hops.ensures.links;
   of = c.in_ok-hops.ensures.of;
   told = c.in_ok-hops.ensures.told;
-  tries = first g.F.Fetcher.log (λ f found. g.F.Fetcher.rules (g.F.Fetcher.site f) c.args.of.now (rules_of_hops found.hops)) (λ found. is_worth_hops (retries_by c.args.retries.now) found.hops) (ask.Rules c.args.of.now) c.args.inner.now c.ask_hops.new.self c.in_ok-hops.hops (c.in_ok-hops.ensures.asked, c.in_ok-hops.ensures.told);
+  tries = first g.F.Fetcher.log g.F.Calling.lost (λ f found. g.F.Fetcher.rules (g.F.Fetcher.site f) c.args.of.now (rules_of_hops found.hops)) (λ found. is_worth_hops (retries_by c.args.retries.now) found.hops) (ask.Rules c.args.of.now) c.args.inner.now c.ask_hops.new.self c.in_ok-hops.hops (c.in_ok-hops.ensures.asked, c.in_ok-hops.ensures.told);
 }
 
 pub loop-made-preserved : goal.loop-made-preserved
@@ -24,8 +24,8 @@ loop-made-preserved g c =
       links = c.in_ok-hops-2.ensures.links ∙ inv.links;
       of = c.in_ok-hops-2.ensures.of;
       told = subst (λ s. g.F.Fetcher.rules s c.args.of.now (rules_of_hops c.in_ok-hops-2.hops.hops)) inv.site c.in_ok-hops-2.ensures.told;
-      tries = goes_on g.F.Fetcher.log (λ f found. g.F.Fetcher.rules (g.F.Fetcher.site f) c.args.of.now (rules_of_hops found.hops)) (λ found. is_worth_hops (retries_by c.args.retries.now) found.hops) (ask.Rules c.args.of.now) c.loop-made.made c.args.inner.now c.loop-made.inner c.ask_hops-in-loop-made.new.self c.loop-made.hops c.in_ok-hops-2.hops
-          c.loss.result inv.tries (sym c.is_worth_hops.ensures ∙ c.if-not-is_worth_hops.false) (c.in_ok-hops-2.ensures.asked, c.in_ok-hops-2.ensures.told);
+      tries = goes_on g.F.Fetcher.log g.F.Calling.lost (λ f found. g.F.Fetcher.rules (g.F.Fetcher.site f) c.args.of.now (rules_of_hops found.hops)) (λ found. is_worth_hops (retries_by c.args.retries.now) found.hops) (ask.Rules c.args.of.now) c.loop-made.made c.args.inner.now c.loop-made.inner c.ask_hops-in-loop-made.new.self c.loop-made.hops c.in_ok-hops-2.hops
+          inv.tries (sym (c.is_worth_hops.ensures ∙ ap (is_worth_hops (retries_by c.args.retries.now) c.loop-made.hops.hops) c.loss.ensures) ∙ c.if-not-is_worth_hops.false) (c.in_ok-hops-2.ensures.asked, c.in_ok-hops-2.ensures.told);
     }
 
 pub returns-then-not-is_worth_hops : goal.returns-then-not-is_worth_hops
@@ -34,8 +34,8 @@ returns-then-not-is_worth_hops g c = record {
   links = c.loop-made.invariant.links;
   of = c.loop-made.invariant.of;
   told = c.loop-made.invariant.told;
-  tries = stops g.F.Fetcher.log (λ f found. g.F.Fetcher.rules (g.F.Fetcher.site f) c.args.of.now (rules_of_hops found.hops)) (λ found. is_worth_hops (retries_by c.args.retries.now) found.hops) (ask.Rules c.args.of.now) c.loop-made.made c.args.retries.now.most c.args.inner.now c.loop-made.inner c.loop-made.hops
-      c.loss.result c.loop-made.invariant.tries (sym c.is_worth_hops.ensures ∙ c.if-not-is_worth_hops.true) (omega (arith, c.loop-made-test.true));
+  tries = stops g.F.Fetcher.log g.F.Calling.lost (λ f found. g.F.Fetcher.rules (g.F.Fetcher.site f) c.args.of.now (rules_of_hops found.hops)) (λ found. is_worth_hops (retries_by c.args.retries.now) found.hops) (ask.Rules c.args.of.now) c.loop-made.made c.args.retries.now.most c.args.inner.now c.loop-made.inner c.loop-made.hops
+      c.loop-made.invariant.tries (sym (c.is_worth_hops.ensures ∙ ap (is_worth_hops (retries_by c.args.retries.now) c.loop-made.hops.hops) c.loss.ensures) ∙ c.if-not-is_worth_hops.true) (omega (arith, c.loop-made-test.true));
 }
 
 pub returns : goal.returns
@@ -44,6 +44,6 @@ returns g c = record {
   links = c.loop-made.invariant.links;
   of = c.loop-made.invariant.of;
   told = c.loop-made.invariant.told;
-  tries = ends g.F.Fetcher.log (λ f found. g.F.Fetcher.rules (g.F.Fetcher.site f) c.args.of.now (rules_of_hops found.hops)) (λ found. is_worth_hops (retries_by c.args.retries.now) found.hops) (ask.Rules c.args.of.now) c.loop-made.made c.args.retries.now.most c.args.inner.now c.loop-made.inner c.loop-made.hops
+  tries = ends g.F.Fetcher.log g.F.Calling.lost (λ f found. g.F.Fetcher.rules (g.F.Fetcher.site f) c.args.of.now (rules_of_hops found.hops)) (λ found. is_worth_hops (retries_by c.args.retries.now) found.hops) (ask.Rules c.args.of.now) c.loop-made.made c.args.retries.now.most c.args.inner.now c.loop-made.inner c.loop-made.hops
       c.loop-made.invariant.tries (omega (arith, c.loop-made-test.false, c.loop-made.auto.made-end));
 }

@@ -13,5 +13,5 @@ invariant-loop-made g l = record {
   links : g.F.Telling.links l.inner ≡ g.F.Telling.links l.fn.inner;
   of : l.hops.of ≡ l.of;
   told : g.F.Fetcher.rules (g.F.Fetcher.site l.fn.inner) l.of (rules_of_hops l.hops.hops);
-  tries : TriesSoFar g.F.Fetcher.log (λ f found. g.F.Fetcher.rules (g.F.Fetcher.site f) l.of (rules_of_hops found.hops)) (λ found. is_worth_hops (retries_by l.retries) found.hops) (ask.Rules l.of) l.made l.fn.inner l.inner l.hops;
+  tries : TriesSoFar g.F.Fetcher.log g.F.Calling.lost (λ f found. g.F.Fetcher.rules (g.F.Fetcher.site f) l.of (rules_of_hops found.hops)) (λ found. is_worth_hops (retries_by l.retries) found.hops) (ask.Rules l.of) l.made l.fn.inner l.inner l.hops;
 }
