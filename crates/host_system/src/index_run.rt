@@ -1,26 +1,27 @@
 //! What earlier runs left in the folder, by the index and the journal that are there, and what this one leaves.
-ghost use Rattle.std.specs.Prelude.{◌≡◌, ◌||◌, ◌++◌, ◌∷◌, [], Err, IfOk, not, string_bytes, true};
+ghost use Rattle.std.specs.Prelude.{◌≡◌, ◌||◌, Err, not, true};
 ghost use Rattle.host_system.specs.declared.index_run.BeginFault.TheVariants.{Unfit};
 
-use crate::journal::{JOURNAL, LeftJournal, SharedJournal, is_nothing, left_at};
+use crate::index_file::{INDEX, index_of, own_path, put_index, tell};
+use crate::journal::{JOURNAL, LeftJournal, SharedJournal, left_at};
+use crate::removed_files::remove_all;
 use crate::shared_failures::SharedFailures;
 use earlier_pages::EarlierPages;
 use harvest::Harvest;
 use local_names::ORIGINAL;
-use mirror_index::{Entry, IndexFault, MAX_INDEX, MirrorIndex, read_index, write_index};
-use mirror_upkeep::{first_line, gone, in_way, is_sure, joined, named_pages, places_by_name};
+use mirror_index::{Entry, MirrorIndex};
+use mirror_upkeep::{
+    first_line, gone, in_way, is_same, is_sure, joined, named_pages, places_by_name,
+};
 use options::{Order, Upkeep};
 use part_keeper::KeptPart;
 use std::alloc::{AllocError, Global};
-use std::fs::{File, Files};
-use std::io::{ErrorKind, Write};
+use std::fs::Files;
+use std::io::Write;
 use std::sync::{Arc, Mutex, Wait};
 use std::{io, mem};
-use streams::{Close, Lock, ReadInputFault, read_input};
+use streams::{Close, Lock};
 use tcp_fetcher::Earlier;
-
-/// What the index is called, directly below the folder. No page has a name that begins so.
-pub(crate) const INDEX: &str = ".wgetr%index";
 
 /// Why a run isn't begun.
 #[derive(Clone, Copy)]
@@ -56,6 +57,8 @@ pub(crate) struct Begun {
     pub(crate) earlier: Arc<Earlier>,
     /// The places of the earlier pages' entries, in the order of their names.
     pub(crate) by_name: Vec<usize>,
+    // Whether the index that is there says just what is known of earlier pages.
+    is_index_there: bool,
 }
 
 impl Begun {
@@ -165,92 +168,6 @@ fn set_journal<F: Drop>(held: &mut SharedJournal<F>, journal: SharedJournal<F>) 
     *held = journal;
 }
 
-// The path of a file of the program's own, directly below a folder.
-fn own_path(alloc: Global, folder: &str, name: &str) -> Result<String, AllocError>
-    ensures { IfOk result (λ path. string_bytes path ≡ folder.now ++ 47 ∷ name.now) }
-{
-    format!(in alloc; "{folder}/{name}")
-}
-
-// Says to a person what is so with a file of the program's own, and what follows.
-fn tell<R: Wait>(
-    rt: &R,
-    alloc: Global,
-    failures: &SharedFailures,
-    path: &str,
-    why: &str,
-    then: &str,
-) -> Result<(), AllocError> {
-    let line = format!(in alloc; "{path}: {why}; {then}\n")?;
-    failures.say(rt, line.as_str());
-    Ok(())
-}
-
-// Why there is no index.
-enum Unread {
-    // There is nothing.
-    Nothing,
-    // It can't be used, for this reason.
-    Unused(&'static str),
-    // This line is damaged.
-    Line(usize),
-    Memory,
-}
-
-// All bytes of the index at a path.
-fn bytes_at<R: Files>(rt: &R, alloc: Global, path: &str) -> Result<Vec<u8>, Unread> {
-    match rt.symlink_metadata(path) {
-        Ok(found) if found.is_file() => {}
-        Err(e) if is_nothing(&e) => return Err(Unread::Nothing),
-        _ => return Err(Unread::Unused("isn't a file")),
-    }
-    let Ok(mut file) = File::open(rt, path) else {
-        return Err(Unread::Unused("can't be read"));
-    };
-    match read_input(alloc, &mut file, MAX_INDEX) {
-        Ok(bytes) => Ok(bytes),
-        Err(ReadInputFault::Long) => Err(Unread::Unused("is too long")),
-        Err(ReadInputFault::Failed) => Err(Unread::Unused("can't be read")),
-        Err(ReadInputFault::Memory) => Err(Unread::Memory),
-    }
-}
-
-// The index at a path.
-fn read_at<R: Files>(rt: &R, alloc: Global, path: &str) -> Result<MirrorIndex, Unread> {
-    let bytes = bytes_at(rt, alloc, path)?;
-    match read_index(alloc, bytes.as_slice()) {
-        Ok(index) => Ok(index),
-        Err(IndexFault::Line(line)) => Err(Unread::Line(line)),
-        Err(IndexFault::Version) => Err(Unread::Unused("is of another version")),
-        Err(IndexFault::Memory) => Err(Unread::Memory),
-    }
-}
-
-/// What follows if an index can't be used.
-const ALL_ASKED: &str = "each page is requested";
-
-// The index of a folder; an empty one if there is none that can be used, of which a person is told. Fails only if memory runs out.
-fn index_of<R: Files + Wait>(
-    rt: &R,
-    alloc: Global,
-    failures: &SharedFailures,
-    folder: &str,
-) -> Result<MirrorIndex, AllocError> {
-    let path = own_path(alloc, folder, INDEX)?;
-    let path = path.as_str();
-    match read_at(rt, alloc, path) {
-        Ok(index) => return Ok(index),
-        Err(Unread::Nothing) => {}
-        Err(Unread::Unused(why)) => tell(rt, alloc, failures, path, why, ALL_ASKED)?,
-        Err(Unread::Line(line)) => {
-            let why = format!(in alloc; "line {line} is damaged")?;
-            tell(rt, alloc, failures, path, why.as_str(), ALL_ASKED)?;
-        }
-        Err(Unread::Memory) => return Err(AllocError),
-    }
-    Ok(MirrorIndex::new(alloc))
-}
-
 // The names of files that a run put, and those of the bodies that it may have kept beside them.
 fn put_names(
     alloc: Global,
@@ -276,93 +193,6 @@ fn gone_of(alloc: Global, begun: &Begun, names: &[String]) -> Result<Vec<String>
     let put = put_names(alloc, names, begun.has_originals)?;
     let earlier = begun.earlier.pages.index();
     gone(alloc, earlier.entries(), put.as_slice(), begun.backs_up)
-}
-
-// Writes the index of a folder in the run's own directory, and puts it in its place when it is whole.
-fn put_index<R: Files>(
-    rt: &R,
-    alloc: Global,
-    own: &str,
-    path: &str,
-    index: &MirrorIndex,
-) -> io::Result<()>
-where
-    R::File: Close,
-{
-    let part = format!(in alloc; "{own}/index")?;
-    let mut file = File::create_new(rt, part.as_str())?;
-    if write_index(alloc, &mut file, index).is_err() {
-        drop(file);
-        let _ = rt.remove_file(part.as_str());
-        return Err(io::Error::from(ErrorKind::Other));
-    }
-    file.close()?;
-    rt.rename(part.as_str(), path)
-}
-
-// Whether each directory that a name has below a folder is one, and no link.
-fn leads_down<R: Files>(rt: &R, alloc: Global, folder: &str, dirs: &str) -> io::Result<bool> {
-    let mut path = String::from_str(alloc, folder)?;
-    for dir in dirs.split('/') {
-        path.push_str("/")?;
-        path.push_str(dir)?;
-        if !rt.symlink_metadata(path.as_str())?.is_dir() {
-            return Ok(false);
-        }
-    }
-    Ok(true)
-}
-
-// Removes these directories below a folder as far as they are empty, the lowest first.
-fn remove_empty<R: Files>(rt: &R, alloc: Global, folder: &str, dirs: &str) -> io::Result<()> {
-    let mut dirs = dirs;
-    for _ in 0..dirs.len().saturating_add(1) {
-        let path = own_path(alloc, folder, dirs)?;
-        rt.remove_dir(path.as_str())?;
-        match dirs.rsplit_once('/') {
-            Some((above, _)) => dirs = above,
-            None => return Ok(()),
-        }
-    }
-    Ok(())
-}
-
-// Removes the file of a name below a folder, and the directories that are empty then. What is there in place of a file, or of a
-// directory on the way, stays.
-fn remove_name<R: Files>(rt: &R, alloc: Global, folder: &str, name: &str) -> io::Result<()> {
-    let dirs = match name.rsplit_once('/') {
-        Some((dirs, _)) => dirs,
-        None => "",
-    };
-    if !dirs.is_empty() && !leads_down(rt, alloc, folder, dirs)? {
-        return Ok(());
-    }
-    let path = own_path(alloc, folder, name)?;
-    if !rt.symlink_metadata(path.as_str())?.is_file() {
-        return Ok(());
-    }
-    rt.remove_file(path.as_str())?;
-    if !dirs.is_empty() {
-        let _ = remove_empty(rt, alloc, folder, dirs);
-    }
-    Ok(())
-}
-
-// Removes the files of these names below a folder. What isn't there stays so, and each other failure is kept for a person.
-fn remove_all<R: Files + Wait>(
-    rt: &R,
-    alloc: Global,
-    failures: &SharedFailures,
-    folder: &str,
-    names: &[String],
-) {
-    for name in names {
-        let name = name.as_str();
-        match remove_name(rt, alloc, folder, name) {
-            Err(error) if error.kind() != ErrorKind::NotFound => failures.fail(rt, name, &error),
-            _ => {}
-        }
-    }
 }
 
 impl<F: Drop> IndexRun<F> {
@@ -460,26 +290,41 @@ impl<F: Drop> IndexRun<F> {
         Ok(pages)
     }
 
-    // What is known of earlier runs' pages below a folder, by these of one that was stopped and by the index.
-    fn earlier_of<R: Wait + Files<File = F>>(
+    // What is known of earlier runs' pages below a folder, by these of one that was stopped and by the index, and whether that is there and
+    // says just this.
+    fn known_of<R: Wait + Files<File = F>>(
         &self,
         rt: &R,
         failures: &SharedFailures,
         folder: &str,
         upkeep: Upkeep,
         stopped: MirrorIndex,
+    ) -> Result<(MirrorIndex, bool), AllocError> {
+        if !keeps_index(upkeep) {
+            let known = if upkeep.continues {
+                stopped
+            } else {
+                MirrorIndex::new(self.alloc)
+            };
+            return Ok((known, false));
+        }
+        match index_of(rt, self.alloc, failures, folder)? {
+            Some(index) if stopped.len() == 0 => Ok((index, true)),
+            Some(index) => Ok((joined(self.alloc, &index, &stopped)?, false)),
+            None => Ok((stopped, false)),
+        }
+    }
+
+    // These pages of earlier runs below a folder.
+    fn earlier_of(
+        &self,
+        folder: &str,
+        upkeep: Upkeep,
+        known: MirrorIndex,
     ) -> Result<Arc<Earlier>, AllocError> {
-        let index = if keeps_index(upkeep) {
-            let index = index_of(rt, self.alloc, failures, folder)?;
-            joined(self.alloc, &index, &stopped)?
-        } else if upkeep.continues {
-            stopped
-        } else {
-            MirrorIndex::new(self.alloc)
-        };
         let folder = String::from_str(self.alloc, folder)?;
         let earlier = Earlier {
-            pages: EarlierPages::new(self.alloc, folder, index),
+            pages: EarlierPages::new(self.alloc, folder, known),
             is_asked: upkeep.timestamps,
         };
         in_common(self.alloc, earlier)
@@ -502,13 +347,21 @@ impl<F: Drop> IndexRun<F> {
         let upkeep = order.upkeep;
         let folder = String::from_str(self.alloc, order.prefix.as_str())?;
         let stopped = self.begin_journal(rt, failures, folder.as_str(), order)?;
-        let earlier = self.earlier_of(rt, failures, folder.as_str(), upkeep, stopped)?;
+        let (known, is_index_there) = self.known_of(
+            rt,
+            failures,
+            folder.as_str(),
+            upkeep,
+            stopped,
+        )?;
+        let earlier = self.earlier_of(folder.as_str(), upkeep, known)?;
         let begun = Begun {
             folder,
             upkeep,
             backs_up: order.backs_up,
             has_originals: order.names.rules.has_originals,
             by_name: places_by_name(self.alloc, earlier.pages.index().entries())?,
+            is_index_there,
             earlier,
         };
         let begun = in_common(self.alloc, begun)?;
@@ -592,7 +445,7 @@ impl<F: Drop> IndexRun<F> {
         Ok(())
     }
 
-    // Writes the index of what was put, after the files of gone pages were removed, if that is to be done.
+    // Writes the index of what was put, after the files of gone pages were removed, if that is to be done. An index that says so already stays.
     fn end_index<R: Wait + Files>(
         &self,
         rt: &R,
@@ -610,13 +463,19 @@ impl<F: Drop> IndexRun<F> {
         if removes && !put.is_sure {
             failures.say(rt, "files of gone pages stay: not all was answered\n");
         }
-        let index = if removes && put.is_sure {
+        let are_gone = removes && put.is_sure;
+        if are_gone {
             remove_all(rt, self.alloc, failures, folder, put.gone.as_slice());
-            joined(self.alloc, &MirrorIndex::new(self.alloc), &put.pages)?
-        } else {
-            joined(self.alloc, begun.earlier.pages.index(), &put.pages)?
-        };
+        }
+        let earlier = begun.earlier.pages.index();
+        if begun.is_index_there && is_same(earlier, &put.pages) {
+            return Ok(());
+        }
         let path = own_path(self.alloc, folder, INDEX)?;
+        if are_gone {
+            return put_index(rt, self.alloc, own, path.as_str(), &put.pages);
+        }
+        let index = joined(self.alloc, earlier, &put.pages)?;
         put_index(rt, self.alloc, own, path.as_str(), &index)
     }
 

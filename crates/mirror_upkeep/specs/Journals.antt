@@ -1,5 +1,5 @@
 -- The journal of a run: its text, and which line of a text is the first that is none of a journal.
-use Rattle.std.specs.Prelude.{◌≡◌, ◌≢◌, ◌++◌, ◌+◌, ◌≤◌, ◌⊎◌, ℕ, List, [], ◌∷◌, All, codes, if◌then◌else◌, length, nat_le}
+use Rattle.std.specs.Prelude.{◌≡◌, ◌≢◌, ◌++◌, ◌+◌, ◌≤◌, ◌⊎◌, ◌==◌, ℕ, List, [], ◌∷◌, All, codes, if◌then◌else◌, length, nat_le}
 use Rattle.address.specs.Address.{AddressText}
 use Rattle.hex.specs.Hex.{encode_lower}
 use Rattle.sha2.specs.Sha256.{sha256}
@@ -52,6 +52,11 @@ pub record AreWritten (entries : List Entry) : Type 0 where
 -- the first entries begin with the others
 abbrev pub StartsWith : List Entry → List Entry → Type 0
 StartsWith entries read = (left : List Entry) × (entries ≡ read ++ left)
+
+-- what is before the first zero, which no journal has: bytes that a crash lost are zeros
+abbrev pub before_zero : Text → Text
+before_zero [] = []
+before_zero (x ∷ xs) = if x == 0 then [] else x ∷ before_zero xs
 
 -- ---- what isn't one
 

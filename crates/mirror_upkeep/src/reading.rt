@@ -1,10 +1,11 @@
 //! Reading a journal.
 ghost use Rattle.std.specs.Prelude.{◌≡◌, ◌++◌, ◌+◌, ◌<◌, ◌^◌, ◌∷◌, ℕ, List, [], Err, IfOk, IfSome, MatchOption, MatchResult, OnOk, Some, length, string_bytes};
-ghost use Rattle.address.specs.Address.{AddressText};
+ghost use Rattle.address.specs.Address.{AddressText, IsAddress};
+ghost use Rattle.disk_folder.specs.Disks.{Holed};
 ghost use Rattle.mirror_index.specs.Cuts.{Lacks};
 ghost use Rattle.mirror_index.specs.Entries.{Entry, IsEntry, Text, entry_line};
 ghost use Rattle.mirror_index.specs.Indexes.{lines};
-ghost use Rattle.mirror_upkeep.specs.Journals.{AreWritten, Begins, HasUnwritten, IsFirstBad, IsJournal, IsOther, StartsWith, version};
+ghost use Rattle.mirror_upkeep.specs.Journals.{AreWritten, Begins, HasUnwritten, IsFirstBad, IsJournal, IsOther, StartsWith, before_zero, first_line, version};
 ghost use Rattle.mirror_upkeep.specs.Latest.{IsWholeIndexOf};
 ghost use Rattle.mirror_upkeep.specs.inner.Reading.{AreIn, IsAfterFirst, IsFaultIn, IsFaultOfFirst};
 ghost use Rattle.mirror_upkeep.specs.Reasons.{reason_of};
@@ -106,18 +107,17 @@ fn entries_in(alloc: Global, text: &[u8]) -> Result<Vec<Entry>, JournalFault>
     Ok(entries)
 }
 
-/// The pages of a journal that begins with this line, by whole lines: what is after the last end of a line is of a write that wasn't
-/// finished. Of several entries of one address the last counts.
-pub fn read_journal(alloc: Global, bytes: &[u8], first: &[u8]) -> Result<MirrorIndex, JournalFault>
-    ensures is { IfOk result (λ index. (entries : List Entry) × IsJournal bytes.now first.now entries × IsWholeIndexOf entries index) }
-    ensures back { (entries : List Entry) → AreWritten entries → Begins (first.now ++ lines entries []) bytes.now
-        → MatchResult result (λ index. (read : List Entry) × IsJournal bytes.now first.now read × StartsWith entries read × IsWholeIndexOf read index) (λ fault. fault ≡ Memory) }
-    ensures version { result ≡ Err Version → IsOther bytes.now first.now × (¬ Begins bytes.now version) }
-    ensures starts { result ≡ Err Starts → IsOther bytes.now first.now × Begins bytes.now version }
-    ensures line { (line : ℕ) → result ≡ Err (Line line) → IsFirstBad bytes.now first.now line }
-    ensures entry { result ≡ Err EntryFault → HasUnwritten bytes.now first.now }
+// The pages of a text as a journal of this first line has it, without a zero.
+fn read_said(alloc: Global, text: &[u8], first: &[u8]) -> Result<MirrorIndex, JournalFault>
+    ensures is { IfOk result (λ index. (entries : List Entry) × IsJournal text.now first.now entries × IsWholeIndexOf entries index) }
+    ensures back { (entries : List Entry) → AreWritten entries → Begins (first.now ++ lines entries []) text.now
+        → MatchResult result (λ index. (read : List Entry) × IsJournal text.now first.now read × StartsWith entries read × IsWholeIndexOf read index) (λ fault. fault ≡ Memory) }
+    ensures version { result ≡ Err Version → IsOther text.now first.now × (¬ Begins text.now version) }
+    ensures starts { result ≡ Err Starts → IsOther text.now first.now × Begins text.now version }
+    ensures line { (line : ℕ) → result ≡ Err (Line line) → IsFirstBad text.now first.now line }
+    ensures entry { result ≡ Err EntryFault → HasUnwritten text.now first.now }
 {
-    let rest = after_first(bytes, first)?;
+    let rest = after_first(text, first)?;
     let entries = entries_in(alloc, rest)?;
     let made = index_of(alloc, entries)?;
     if made.is_whole {
@@ -125,6 +125,35 @@ pub fn read_journal(alloc: Global, bytes: &[u8], first: &[u8]) -> Result<MirrorI
     } else {
         Err(JournalFault::Entry)
     }
+}
+
+// What is before the first zero.
+fn before_zero(bytes: &[u8]) -> &[u8]
+    ensures { result.now ≡ before_zero bytes.now }
+{
+    match memchr(0, bytes) {
+        Some(at) => &bytes[..at],
+        None => bytes,
+    }
+}
+
+/// The pages of a journal that begins with this line, by whole lines: what is after the last end of a line is of a write that wasn't
+/// finished. Nor does anything count from the first zero on, which is a byte that the disk lost. Of several entries of one address the
+/// last counts.
+pub fn read_journal(alloc: Global, bytes: &[u8], first: &[u8]) -> Result<MirrorIndex, JournalFault>
+    ensures is { IfOk result (λ index. (entries : List Entry) × IsJournal (before_zero bytes.now) first.now entries × IsWholeIndexOf entries index) }
+    ensures back { (entries : List Entry) → AreWritten entries → Begins (first.now ++ lines entries []) (before_zero bytes.now)
+        → MatchResult result (λ index. (read : List Entry) × IsJournal (before_zero bytes.now) first.now read × StartsWith entries read × IsWholeIndexOf read index) (λ fault. fault ≡ Memory) }
+    // Whatever a crash at any moment leaves of a journal, of which nothing was brought onto the disk: a front of its entries is read.
+    ensures crash { (start : AddressText) (others : List AddressText) (entries : List Entry) → IsAddress start → first.now ≡ first_line start others → AreWritten entries
+        → Holed (first.now ++ lines entries []) bytes.now
+        → MatchResult result (λ index. (read : List Entry) × StartsWith entries read × IsWholeIndexOf read index) (λ fault. fault ≡ Memory) }
+    ensures version { result ≡ Err Version → IsOther (before_zero bytes.now) first.now × (¬ Begins (before_zero bytes.now) version) }
+    ensures starts { result ≡ Err Starts → IsOther (before_zero bytes.now) first.now × Begins (before_zero bytes.now) version }
+    ensures line { (line : ℕ) → result ≡ Err (Line line) → IsFirstBad (before_zero bytes.now) first.now line }
+    ensures entry { result ≡ Err EntryFault → HasUnwritten (before_zero bytes.now) first.now }
+{
+    read_said(alloc, before_zero(bytes), first)
 }
 
 /// What is wrong with a journal, for a person. The error is that memory ran out.

@@ -1,42 +1,23 @@
--- The first line, the lines of entries, and which of them count.
-use Rattle.std.proofs.Common.{◌≡◌, ◌∙◌, true, false, sym}
-use Rattle.std.proofs.lemmas.Result.{err_from_is_err_and}
-use Rattle.mirror_upkeep.proofs.ReadingLaws.{is_journal, line_fault, memory_only, never_fault, read_back, starts_written, unwritten}
-use Rattle.mirror_upkeep.specs.declared.reading.JournalFault.TheVariants.{Line}
+-- What is before the first zero is read, and that is a front of a journal if a crash left the rest.
+use Rattle.std.proofs.Common.{◌≡◌, ◌++◌, [], List, Result, Ok, Err, sym, subst}
+use Rattle.std.specs.Result.{MatchResult}
+use Rattle.mirror_index.specs.Entries.{Entry}
+use Rattle.mirror_index.specs.Indexes.{lines}
+use Rattle.mirror_upkeep.specs.Journals.{Begins, IsJournal, StartsWith}
+use Rattle.mirror_upkeep.specs.Latest.{IsWholeIndexOf}
+use Rattle.mirror_upkeep.specs.declared.reading.JournalFault.TheVariants.{Memory}
+use Rattle.mirror_upkeep.proofs.ZeroLaws.{crash_front}
 use Rattle.mirror_upkeep.proofs.reading.read_journal.Goals as goal
 
-pub returns-in_err-rest-clause-back : goal.returns-in_err-rest-clause-back
-returns-in_err-rest-clause-back c all written begins = absurd (never_fault c.args.bytes.now c.args.first.now all _ c.in_err-rest.ensures begins)
+pub returns-clause-back : goal.returns-clause-back
+returns-clause-back c = let back = rw c.before_zero.ensures at c.read_said.ensures.back in back
 
-pub returns-in_err-entries-clause-back : goal.returns-in_err-entries-clause-back
-returns-in_err-entries-clause-back c all written begins =
-    let p = err_from_is_err_and c.from_residual-in_err-entries.result c.from_residual-in_err-entries.ensures.1 in
-    rw (p.1, p.2) (memory_only c.args.bytes.now c.args.first.now c.in_ok-rest.rest.now all _ c.in_ok-rest.ensures c.in_err-entries.ensures written begins)
+forget : {A E : Type 0} (J S : List Entry → Type 0) (W : List Entry → A → Type 0) (F : E → Type 0) (r : Result A E)
+    → MatchResult r (λ i. (x : List Entry) × J x × S x × W x i) F → MatchResult r (λ i. (x : List Entry) × S x × W x i) F
+forget J S W F (Ok i) is = (is.0, is.2, is.3)
+forget J S W F (Err e) is = is
 
-pub returns-in_err-entries-clause-line : goal.returns-in_err-entries-clause-line
-returns-in_err-entries-clause-line c line is =
-    let p = err_from_is_err_and c.from_residual-in_err-entries.result c.from_residual-in_err-entries.ensures.1 in
-    line_fault c.args.bytes.now c.args.first.now c.in_ok-rest.rest.now _ line c.in_ok-rest.ensures c.in_err-entries.ensures (let same : p.0 ≡ Line line = cc in sym p.2 ∙ same)
-
-pub returns-then-made-clause-is : goal.returns-then-made-clause-is
-returns-then-made-clause-is c =
-    (c.in_ok-entries.entries.items, is_journal c.args.bytes.now c.args.first.now c.in_ok-rest.rest.now c.in_ok-entries.entries.items c.in_ok-rest.ensures c.in_ok-entries.ensures, c.in_ok-made.ensures.whole c.if-made.true)
-
-pub returns-then-made-clause-back : goal.returns-then-made-clause-back
-returns-then-made-clause-back c all written begins = (
-  c.in_ok-entries.entries.items,
-  is_journal c.args.bytes.now c.args.first.now c.in_ok-rest.rest.now c.in_ok-entries.entries.items c.in_ok-rest.ensures c.in_ok-entries.ensures,
-  read_back c.args.bytes.now c.args.first.now c.in_ok-rest.rest.now all c.in_ok-entries.entries.items c.in_ok-rest.ensures c.in_ok-entries.ensures written begins,
-  c.in_ok-made.ensures.whole c.if-made.true,
-)
-
-pub returns-else-made-clause-back : goal.returns-else-made-clause-back
-returns-else-made-clause-back c all written begins =
-    let starts = read_back c.args.bytes.now c.args.first.now c.in_ok-rest.rest.now all c.in_ok-entries.entries.items c.in_ok-rest.ensures c.in_ok-entries.ensures written begins in
-    let yes : c.in_ok-made.made.is_whole ≡ true = c.in_ok-made.ensures.all (starts_written all c.in_ok-entries.entries.items starts written) in
-    let none : c.in_ok-made.made.is_whole ≡ false = c.if-made.false in
-    cc
-
-pub returns-else-made-clause-entry : goal.returns-else-made-clause-entry
-returns-else-made-clause-entry c same =
-    unwritten c.args.bytes.now c.args.first.now c.in_ok-rest.rest.now c.in_ok-entries.entries.items c.in_ok-made.made.is_whole c.in_ok-rest.ensures c.in_ok-entries.ensures c.in_ok-made.ensures.all c.if-made.false
+pub returns-clause-crash : goal.returns-clause-crash
+returns-clause-crash c start others entries is own written holed =
+    let front = crash_front start others c.args.first.now c.args.bytes.now entries is own holed in
+    forget (IsJournal c.before_zero.result.now c.args.first.now) (StartsWith entries) IsWholeIndexOf (λ fault. fault ≡ Memory) c.read_said.result (c.read_said.ensures.back entries written (subst (Begins (c.args.first.now ++ lines entries [])) (sym c.before_zero.ensures) front))
