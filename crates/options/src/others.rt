@@ -8,7 +8,7 @@ ghost use Rattle.options.specs.Order.{AnswersOrder, besides, ordered_by, starts_
 
 use crate::fault::LineFault;
 use crate::order::Order;
-use crate::read::read_page;
+use crate::start_page::read_page;
 use address::Address;
 use clap::error::ErrorKind;
 use follow_filters::Starts;

@@ -10,7 +10,7 @@ ghost use Rattle.options.specs.inner.Sought.{IsFaultOfValue};
 
 use crate::fault::LineFault;
 use crate::given::{given, is_set};
-use crate::read::unless_empty;
+use crate::proxying::unless_empty;
 use clap::ArgMatches;
 use follow_filters::{Elements, Expression, ExpressionFault};
 use std::alloc::{AllocError, Global};

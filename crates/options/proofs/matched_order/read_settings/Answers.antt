@@ -4,7 +4,7 @@ use Rattle.std.specs.Prelude.{Err}
 use Rattle.clap.specs.Words.{found_of, rows_of}
 use Rattle.options.specs.Asked.{without_kind}
 use Rattle.options.proofs.ReadLemmas.{bad-words, bad-counts, bad-manner, bad-proxy, bad-names, bad-fields, bad-retries}
-use Rattle.options.proofs.read.read_settings.Goals as goal
+use Rattle.options.proofs.matched_order.read_settings.Goals as goal
 
 pub returns-in-Some : goal.returns-in-Some
 returns-in-Some c =

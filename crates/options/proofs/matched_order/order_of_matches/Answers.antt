@@ -3,7 +3,7 @@ use Rattle.std.specs.Prelude.{Ok, Err}
 use Rattle.clap.specs.Words.{found_of, rows_of}
 use Rattle.options.specs.Given.{level_of}
 use Rattle.options.proofs.ReadLemmas.{bad-level, bad-filters, bad-start, good-order}
-use Rattle.options.proofs.read.order_of_matches.Goals as goal
+use Rattle.options.proofs.matched_order.order_of_matches.Goals as goal
 
 pub returns-in-Err : goal.returns-in-Err
 returns-in-Err c = ⊎_elim (λ fails. inl fails) (λ memory. inr (inl memory)) c.in-Err.ensures

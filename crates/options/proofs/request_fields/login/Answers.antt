@@ -6,7 +6,7 @@ use Rattle.clap.specs.Words.{found_of, rows_of}
 use Rattle.options.specs.declared.fault.LineFault.{LineFault}
 use Rattle.options.specs.declared.fault.LineFault.TheVariants as fault
 use Rattle.options.proofs.ReadLemmas.{login-is}
-use Rattle.options.proofs.read.login.Goals as goal
+use Rattle.options.proofs.request_fields.login.Goals as goal
 
 pub returns-clause-answers : goal.returns-clause-answers
 returns-clause-answers c =

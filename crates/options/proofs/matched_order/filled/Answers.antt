@@ -1,6 +1,6 @@
 -- Each field is what the option says, or what was read of it.
 use Rattle.std.proofs.Common.{refl}
-use Rattle.options.proofs.read.filled.Goals as goal
+use Rattle.options.proofs.matched_order.filled.Goals as goal
 
 pub returns : goal.returns
 returns c =

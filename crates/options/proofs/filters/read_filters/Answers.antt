@@ -2,7 +2,7 @@ use Rattle.std.proofs.Common.{inl, inr, ⊎_elim, sym, subst}
 use Rattle.clap.specs.Words.{found_of, rows_of}
 use Rattle.options.specs.inner.Order.{FailsToFilter}
 use Rattle.options.proofs.ReadLemmas.{fails-patterns, fails-directories, fails-domains, fails-expressions, fails-tags}
-use Rattle.options.proofs.read.read_filters.Goals as goal
+use Rattle.options.proofs.filters.read_filters.Goals as goal
 
 pub returns-in-Err : goal.returns-in-Err
 returns-in-Err c =

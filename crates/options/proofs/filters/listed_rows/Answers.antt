@@ -4,7 +4,7 @@ use Rattle.std.specs.Prelude.{MatchOption}
 use Rattle.html_links.specs.Rules.{has_unknown, taken_by}
 use Rattle.html_links.specs.declared.rules.RowSet.{RowSet}
 use Rattle.options.specs.Order.{taken_if}
-use Rattle.options.proofs.read.listed_rows.Goals as goal
+use Rattle.options.proofs.filters.listed_rows.Goals as goal
 
 taken-is : (followed ignored : List ℕ) (r : Option RowSet)
     → MatchOption r ((has_unknown followed || has_unknown ignored) ≡ true) (λ set. ((has_unknown followed || has_unknown ignored) ≡ false) × (set ≡ taken_by followed ignored))
