@@ -15,7 +15,7 @@ use crate::entry::HarvestEntry;
 use crate::gathering::{Held, Parted, gather_all};
 use crate::page::KeptPage;
 use address::{Address, Origin};
-use fetcher::{Body, Outcome};
+use fetcher::Outcome;
 use follow_filters::Plan;
 use frontier_core::{Event, Frontier};
 use robots_rules::RuleSet;
@@ -149,6 +149,14 @@ impl<B: Drop> Harvest<B> {
         self.kept.as_slice()
     }
 
+    /// The bodies of the pages in [`Harvest::kept`], in their places, as their fetcher keeps bodies. Takes no memory.
+    pub fn bodies(&self) -> &[B]
+        ensures value { result.now ≡ self.now.bodies }
+        ensures count { length result.now ≡ length self.now.kept }
+    {
+        self.bodies.as_slice()
+    }
+
     /// The body of the page at that place in [`Harvest::kept`], counted from 0, as its fetcher keeps bodies. Takes no memory.
     pub fn kept_body(&self, i: usize) -> &B
         requires { i < length self.now.kept }
@@ -185,18 +193,5 @@ impl<B: Drop> Harvest<B> {
             Some(frontier) => Some(frontier.plan()),
             None => None,
         }
-    }
-}
-
-impl Harvest<Body> {
-    ghost use Rattle.std.specs.Prelude.{◌≡◌, ◌<◌, Some, length, slice_get};
-    ghost use Rattle.kept_bodies.specs.Bodies.{bytes_of};
-
-    /// The bytes of the page at that place in [`Harvest::kept`], counted from 0. Takes no memory.
-    pub fn body(&self, i: usize) -> &[u8]
-        requires { i < length self.now.kept }
-        ensures { slice_get (bytes_of self.now.bodies) i ≡ Some result.now }
-    {
-        self.kept_body(i).as_slice()
     }
 }

@@ -1,5 +1,6 @@
 //! What is put on the disk: the pages' folder, and a record. What can't be put there is kept for a person.
 ghost use Rattle.std.specs.Prelude.{◌≡◌, length};
+ghost use Rattle.address.specs.AddressOrder.{IsAscending};
 
 use crate::early_run::EarlyRun;
 use crate::index_run::IndexRun;
@@ -7,7 +8,6 @@ use crate::part_threads::PartThreads;
 use crate::shared_failures::SharedFailures;
 use address::Address;
 use early_names::EarlyRules;
-use harvest::Harvest;
 use kept_bodies::Body;
 use local_tree::{
     BodyChange, ChangeCrew, DiskFolder, FileToChange, Folder, FolderFault, NamesParts, Originals,
@@ -83,12 +83,12 @@ where
     }
 }
 
-// Whether each page has a name that it was given early. Then no other name is needed: of claimed names none is another or a directory of it
-// (`early_names::Claims::claim.clear`), and a page whose plain name is so in the way of no other page has that in the end
+// Whether each of these parts has a name that it was given early. Then no other name is needed: of claimed names none is another or a
+// directory of it (`early_names::Claims::claim.clear`), and a page whose plain name is so in the way of no other page has that in the end
 // (`local_names::names.naming`).
-fn are_all_named(harvest: &Harvest<KeptPart>) -> bool {
-    for i in 0..harvest.kept().len() {
-        if harvest.kept_body(i).standing != Standing::Named {
+fn are_all_named(parts: &[KeptPart]) -> bool {
+    for part in parts {
+        if part.standing != Standing::Named {
             return false;
         }
     }
@@ -145,40 +145,44 @@ where
     }
 
     // Has those of these parts ready to get their names that were given others early.
-    fn take_back(&mut self, names: &[String], harvest: &Harvest<KeptPart>)
-        requires { length names.now ≡ length harvest.now.kept }
+    fn take_back(&mut self, names: &[String], pages: &[Address], parts: &[KeptPart])
+        requires count { length names.now ≡ length parts.now }
+        requires pages { length pages.now ≡ length parts.now }
         ensures { self.new.inner ≡ self.old.inner }
     {
-        if are_all_named(harvest) {
+        if are_all_named(parts) {
             return;
         }
         let Some(rules) = self.early.rules(self.rt) else {
             return;
         };
         for (i, name) in names.iter().enumerate() {
-            let part = harvest.kept_body(i);
+            let part = &parts[i];
             if part.standing == Standing::Named {
-                let page = &harvest.kept()[i];
                 take_back_from(
                     self.alloc,
                     &rules,
                     &mut self.inner,
                     name.as_str(),
-                    page,
+                    &pages[i],
                     part,
                 );
             }
         }
     }
 
-    // Has files of earlier runs give way to these names. What stays is in the way of a file.
-    fn make_way(&self, names: &[String], harvest: &Harvest<KeptPart>) {
-        let _ = self.index.make_way(self.rt, self.failures, names, harvest);
+    // Has files of earlier runs give way to these names of pages. What stays is in the way of a file.
+    fn make_way(&self, names: &[String], pages: &[Address])
+        requires { IsAscending pages.now }
+    {
+        let _ = self.index.make_way(self.rt, self.failures, names, pages);
     }
 
     // Notes for the index that all these pages were put.
-    fn note_put(&self, names: &[String], harvest: &Harvest<KeptPart>) {
-        let _ = self.index.note_put(self.rt, names, harvest);
+    fn note_put(&self, names: &[String], pages: &[Address])
+        requires { IsAscending pages.now }
+    {
+        let _ = self.index.note_put(self.rt, names, pages);
     }
 
     // Keeps why the file of this name couldn't be put, whose bytes were to be this part: it was lost, or it got no name.
@@ -215,9 +219,9 @@ where
         put
     }
 
-    fn put_site(&mut self, names: &[String], harvest: &Harvest<Body>) -> Result<(), WriteFault> {
+    fn put_site(&mut self, names: &[String], bodies: &[Body]) -> Result<(), WriteFault> {
         self.kept.end_waiting(self.rt);
-        let put = self.inner.put_site_by(self.crew, names, harvest);
+        let put = self.inner.put_site_by(self.crew, names, bodies);
         if let Err(WriteFault::Device(place)) = put {
             if let Some(name) = names.get(place) {
                 self.note(name.as_str());
@@ -273,17 +277,18 @@ where
         self.put_part(name, kept)
     }
 
-    fn put_harvest(
+    fn put_bodies(
         &mut self,
         names: &[String],
-        harvest: &Harvest<KeptPart>,
+        pages: &[Address],
+        bodies: &[KeptPart],
     ) -> Result<(), WriteFault> {
         self.take_parts();
-        self.take_back(names, harvest);
-        self.make_way(names, harvest);
-        let put = put_parts(self, names, harvest);
+        self.take_back(names, pages, bodies);
+        self.make_way(names, pages);
+        let put = put_parts(self, names, bodies);
         if put.is_ok() {
-            self.note_put(names, harvest);
+            self.note_put(names, pages);
         }
         put
     }
@@ -307,22 +312,23 @@ where
         put
     }
 
-    fn put_changed_harvest<C: BodyChange, W: ChangeCrew>(
+    fn put_changed_bodies<C: BodyChange, W: ChangeCrew>(
         &mut self,
         alloc: Global,
         names: &[String],
-        harvest: &Harvest<KeptPart>,
+        pages: &[Address],
+        bodies: &[KeptPart],
         change: &C,
         crew: &W,
     ) -> Result<bool, WriteFault> {
         self.take_parts();
-        self.take_back(names, harvest);
-        self.make_way(names, harvest);
+        self.take_back(names, pages, bodies);
+        self.make_way(names, pages);
         self.inner.keep_originals(self.originals, names);
-        let put = put_changed_parts(alloc, self, names, harvest, change, crew);
+        let put = put_changed_parts(alloc, self, names, bodies, change, crew);
         self.inner.end_puts();
         if put.is_ok() {
-            self.note_put(names, harvest);
+            self.note_put(names, pages);
         }
         put
     }

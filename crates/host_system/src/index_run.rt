@@ -1,11 +1,13 @@
 //! What earlier runs left in the folder, by the index and the journal that are there, and what this one leaves.
 ghost use Rattle.std.specs.Prelude.{◌≡◌, ◌||◌, Err, not, true};
+ghost use Rattle.address.specs.AddressOrder.{IsAscending};
 ghost use Rattle.host_system.specs.declared.index_run.BeginFault.TheVariants.{Unfit};
 
 use crate::index_file::{INDEX, index_of, own_path, put_index, tell};
 use crate::journal::{JOURNAL, LeftJournal, SharedJournal, left_at};
 use crate::removed_files::remove_all;
 use crate::shared_failures::SharedFailures;
+use address::Address;
 use earlier_pages::EarlierPages;
 use harvest::Harvest;
 use local_names::ORIGINAL;
@@ -14,7 +16,6 @@ use mirror_upkeep::{
     first_line, gone, in_way, is_same, is_sure, joined, named_pages, places_by_name,
 };
 use options::{Order, Upkeep};
-use part_keeper::KeptPart;
 use std::alloc::{AllocError, Global};
 use std::fs::Files;
 use std::io::Write;
@@ -97,7 +98,7 @@ struct Put {
     pages: MirrorIndex,
     // The names of the files of gone pages; none if no file is to be removed.
     gone: Vec<String>,
-    // Whether what it didn't put is gone.
+    // Whether what it didn't put is gone. Not before that is known.
     is_sure: bool,
 }
 
@@ -161,6 +162,13 @@ fn take(alloc: Global, pages: &mut Vec<Entry>) -> Vec<Entry> {
 // What was put, which nothing was from then on.
 fn take_put(put: &mut Option<Put>) -> Option<Put> {
     mem::replace(put, None)
+}
+
+// It is known of what was put, if that is noted, whether all else is gone.
+fn set_sure(put: &mut Option<Put>, is_sure: bool) {
+    if let Some(put) = put {
+        put.is_sure = is_sure;
+    }
 }
 
 // This is the journal from now on.
@@ -402,14 +410,17 @@ impl<F: Drop> IndexRun<F> {
         push(&mut self.pages.lock(rt), page)
     }
 
-    /// The pages of a harvest are to be put under these names: files of earlier runs that an index names give way, if one is kept.
+    /// Pages, whose addresses are in order, are to be put under these names: files of earlier runs that an index names give way, if one is
+    /// kept.
     pub(crate) fn make_way<R: Wait + Files>(
         &self,
         rt: &R,
         failures: &SharedFailures,
         names: &[String],
-        harvest: &Harvest<KeptPart>,
-    ) -> Result<(), AllocError> {
+        pages: &[Address],
+    ) -> Result<(), AllocError>
+        requires { IsAscending pages.now }
+    {
         let Some(begun) = shared(&mut self.begun.lock(rt)) else {
             return Ok(());
         };
@@ -417,32 +428,43 @@ impl<F: Drop> IndexRun<F> {
             return Ok(());
         }
         let earlier = begun.earlier.pages.index().entries();
-        let gone = in_way(self.alloc, earlier, names, harvest.kept(), begun.backs_up)?;
+        let gone = in_way(self.alloc, earlier, names, pages, begun.backs_up)?;
         let folder = begun.folder.as_str();
         remove_all(rt, self.alloc, failures, folder, gone.as_slice());
         Ok(())
     }
 
-    /// All pages of a harvest were put under these names. If there is no memory to know, no index is written.
+    /// All these pages, whose addresses are in order, were put under these names. If there is no memory to know, no index is written.
     pub(crate) fn note_put<R: Wait>(
         &self,
         rt: &R,
         names: &[String],
-        harvest: &Harvest<KeptPart>,
-    ) -> Result<(), AllocError> {
+        pages: &[Address],
+    ) -> Result<(), AllocError>
+        requires { IsAscending pages.now }
+    {
         let Some(begun) = shared(&mut self.begun.lock(rt)) else {
             return Ok(());
         };
-        let pages = take(self.alloc, &mut self.pages.lock(rt));
-        let removes = begun.upkeep.deletes_gone;
-        let earlier = begun.earlier.pages.index();
+        let noted = take(self.alloc, &mut self.pages.lock(rt));
         let put = Put {
-            pages: named_pages(self.alloc, pages.as_slice(), harvest.kept(), names)?,
+            pages: named_pages(self.alloc, noted.as_slice(), pages, names)?,
             gone: gone_of(self.alloc, &begun, names)?,
-            is_sure: removes && is_sure(harvest, earlier),
+            is_sure: false,
         };
         set(&mut self.put.lock(rt), put);
         Ok(())
+    }
+
+    /// This is what was retrieved, which says whether what isn't in it is gone.
+    pub(crate) fn note_harvest<R: Wait, B: Drop>(&self, rt: &R, harvest: &Harvest<B>) {
+        let Some(begun) = shared(&mut self.begun.lock(rt)) else {
+            return;
+        };
+        if begun.upkeep.deletes_gone {
+            let is_sure = is_sure(harvest, begun.earlier.pages.index());
+            set_sure(&mut self.put.lock(rt), is_sure);
+        }
     }
 
     // Writes the index of what was put, after the files of gone pages were removed, if that is to be done. An index that says so already stays.

@@ -8,6 +8,7 @@ use crate::part_threads::PartThreads;
 use crate::parts_asking::PartsAsking;
 use crate::shared_failures::SharedFailures;
 use early_names::EarlyRules;
+use harvest::Harvest;
 use live_system::{FetcherSettings, HoldFault, System};
 use local_tree::{DiskFolder, Originals};
 use options::Order;
@@ -214,7 +215,8 @@ where
         }
     }
 
-    fn end_index(&self, is_whole: bool) {
+    fn end_index<B: Drop>(&self, harvest: &Harvest<B>, is_whole: bool) {
+        self.index.note_harvest(self.rt, harvest);
         let own = self.parts.path(self.rt);
         if let Ok(own) = own {
             self.index

@@ -6,6 +6,7 @@ ghost use Rattle.local_tree.specs.declared.disk_folder.originals.Originals.{Orig
 use answer_notes::Recording;
 use early_names::EarlyRules;
 use fetcher::Fetcher;
+use harvest::Harvest;
 use html_links::LinkRules;
 use local_tree::{HasKind, Originals, Shelf};
 use options::Order;
@@ -108,9 +109,9 @@ pub trait System {
         Ok(())
     }
 
-    /// The run has ended, with all that was to be retrieved if that is said: files of pages that are gone are removed then, if its order
-    /// says so. Failures are reported to a person.
-    fn end_index(&self, _is_whole: bool) {}
+    /// The run has ended with this harvest, and with all that was to be retrieved if that is said: files of pages that are gone are removed
+    /// then, if its order says so. Failures are reported to a person.
+    fn end_index<B: Drop>(&self, _harvest: &Harvest<B>, _is_whole: bool) {}
 
     /// A fetcher for one more worker, with these settings. The error is that memory ran out.
     fn fetcher(&self, settings: FetcherSettings) -> Result<Self::Fetcher, AllocError>

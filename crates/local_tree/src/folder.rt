@@ -5,7 +5,6 @@ ghost use Rattle.local_names.specs.Names.{AreDistinct};
 ghost use Rattle.local_tree.specs.SiteFiles.{IsWhole, IsTornBy};
 
 use crate::site_files::WriteFault;
-use harvest::Harvest;
 use kept_bodies::Body;
 use thiserror::Error;
 
@@ -34,17 +33,17 @@ pub trait Folder {
         ensures torn { OnErr result (KeepsOthers (files self.old) (files self.new) name.now) }
         ensures counted { CountsRefusedPut (failed self.old) (failed self.new) result };
 
-    /// Puts the kept pages of a harvest, in their order, each under its name. If a put fails, no other is made. A folder may make
+    /// Puts the bodies of a site, in their order, each under its name. If a put fails, no other is made. A folder may make
     /// the files ready in another order, as long as nobody finds one under its name before its turn.
-    fn put_site(&mut self, names: &[String], harvest: &Harvest<Body>) -> Result<(), WriteFault>
-        requires count { length names.now ≡ length harvest.now.kept }
+    fn put_site(&mut self, names: &[String], bodies: &[Body]) -> Result<(), WriteFault>
+        requires count { length names.now ≡ length bodies.now }
         requires distinct { AreDistinct (map string_bytes names.now) }
-        ensures whole { OnOk result (IsWhole (map string_bytes names.now) harvest.now.bodies (files self.old) (files self.new)) }
-        ensures torn { IfErr result (IsTornBy (map string_bytes names.now) harvest.now.bodies (holding files failed self.old) (holding files failed self.new)) }
+        ensures whole { OnOk result (IsWhole (map string_bytes names.now) bodies.now (files self.old) (files self.new)) }
+        ensures torn { IfErr result (IsTornBy (map string_bytes names.now) bodies.now (holding files failed self.old) (holding files failed self.new)) }
         ensures quiet { OnOk result (failed self.new ≡ failed self.old) }
     {
         for (i, name) in names.iter().enumerate() {
-            if self.put(name.as_str(), harvest.body(i)).is_err() {
+            if self.put(name.as_str(), bodies[i].as_slice()).is_err() {
                 return Err(WriteFault::Device(i));
             }
         }

@@ -1,5 +1,5 @@
-//! Folders: the pages that a harvest keeps are put into one, in memory or on a disk. It asks no site for
-//! anything, and takes the names of the pages as they are given (`local_names`).
+//! Folders: the bodies of a site are put into one, in memory or on a disk, under the names that are given
+//! (`local_names`). It asks no site for anything.
 //!
 //! Its tests are in `retrieval_tests`.
 #![tactic(auto)]

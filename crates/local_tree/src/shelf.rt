@@ -1,5 +1,6 @@
 //! What a folder is to do that takes bodies as those hand them out who keep them.
 ghost use Rattle.std.specs.Prelude.{◌≡◌, ◌&&◌, ℕ, OnOk, OnErr, IfOk, IfErr, length, map, string_bytes};
+ghost use Rattle.address.specs.AddressOrder.{IsAscending};
 ghost use Rattle.kept_bodies.specs.Bodies.{BodyValue};
 ghost use Rattle.kept_bodies.specs.declared.body_kind.BodyKind.{BodyKind};
 ghost use Rattle.local_names.specs.Names.{AreDistinct};
@@ -11,7 +12,7 @@ use crate::body_change::BodyChange;
 use crate::disk_folder::ChangeCrew;
 use crate::folder::{Folder, FolderFault};
 use crate::site_files::WriteFault;
-use harvest::Harvest;
+use address::Address;
 use kept_bodies::{Body, BodyKind};
 use std::alloc::Global;
 
@@ -83,17 +84,25 @@ pub trait Shelf<B: Drop>: Folder {
         ensures torn { OnErr result (KeepsOthers (Self.files self.old) (Self.files self.new) name.now) }
         ensures counted { CountsRefusedPut (Self.failed self.old) (Self.failed self.new) result };
 
-    /// Puts the kept pages of a harvest, in their order, each under its name. If a put fails, no other is made. A folder may make
-    /// the files ready in another order, as long as nobody finds one under its name before its turn.
-    fn put_harvest(&mut self, names: &[String], harvest: &Harvest<B>) -> Result<(), WriteFault>
-        requires count { length names.now ≡ length harvest.now.kept }
+    /// Puts the bodies of a site, in their order, each under its name. If a put fails, no other is made. A folder may make
+    /// the files ready in another order, as long as nobody finds one under its name before its turn. The addresses of their pages, which
+    /// are in order, are for folders that know files by them.
+    fn put_bodies(
+        &mut self,
+        names: &[String],
+        _pages: &[Address],
+        bodies: &[B],
+    ) -> Result<(), WriteFault>
+        requires count { length names.now ≡ length bodies.now }
+        requires pages { length _pages.now ≡ length bodies.now }
+        requires ascending { IsAscending _pages.now }
         requires distinct { AreDistinct (map string_bytes names.now) }
-        ensures whole { OnOk result (IsShelved holds (map string_bytes names.now) harvest.now.bodies (Self.files self.old) (Self.files self.new)) }
-        ensures torn { IfErr result (IsHalfShelvedBy holds (map string_bytes names.now) harvest.now.bodies (holding Self.files Self.failed self.old) (holding Self.files Self.failed self.new)) }
+        ensures whole { OnOk result (IsShelved holds (map string_bytes names.now) bodies.now (Self.files self.old) (Self.files self.new)) }
+        ensures torn { IfErr result (IsHalfShelvedBy holds (map string_bytes names.now) bodies.now (holding Self.files Self.failed self.old) (holding Self.files Self.failed self.new)) }
         ensures quiet { OnOk result (Self.failed self.new ≡ Self.failed self.old) }
     {
         for (i, name) in names.iter().enumerate() {
-            if self.put_kept(name.as_str(), harvest.kept_body(i)).is_err() {
+            if self.put_kept(name.as_str(), &bodies[i]).is_err() {
                 return Err(WriteFault::Device(i));
             }
         }
@@ -114,26 +123,29 @@ pub trait Shelf<B: Drop>: Folder {
         ensures torn { OnErr result (KeepsOthers (Self.files self.old) (Self.files self.new) name.now) }
         ensures counted { CountsRefusedPut (Self.failed self.old) (Self.failed self.new) result };
 
-    /// Puts the kept pages of a harvest, in their order, each under its name and with what is to be in place of its body. Whether all
-    /// have that; the others have their bodies as they came. If a put fails no other is made, as of [`Shelf::put_harvest`]. A folder may
-    /// put all first, and then have the crew change files.
-    fn put_changed_harvest<C: BodyChange, W: ChangeCrew>(
+    /// Puts the bodies of a site, in their order, each under its name and with what is to be in its place. Whether all files have that;
+    /// the others have their bodies as they came. If a put fails no other is made, as of [`Shelf::put_bodies`]. A folder may put all
+    /// first, and then have the crew change files.
+    fn put_changed_bodies<C: BodyChange, W: ChangeCrew>(
         &mut self,
         alloc: Global,
         names: &[String],
-        harvest: &Harvest<B>,
+        _pages: &[Address],
+        bodies: &[B],
         change: &C,
         _crew: &W,
     ) -> Result<bool, WriteFault>
-        requires count { length names.now ≡ length harvest.now.kept }
+        requires count { length names.now ≡ length bodies.now }
+        requires pages { length _pages.now ≡ length bodies.now }
+        requires ascending { IsAscending _pages.now }
         requires distinct { AreDistinct (map string_bytes names.now) }
-        ensures whole { IfOk result (λ all. IsShelvedAs (C.becomes change.now) all holds (map string_bytes names.now) harvest.now.bodies (holding Self.files Self.failed self.old) (holding Self.files Self.failed self.new)) }
-        ensures torn { IfErr result (IsHalfShelvedAsBy (C.becomes change.now) holds (map string_bytes names.now) harvest.now.bodies (holding Self.files Self.failed self.old) (holding Self.files Self.failed self.new)) }
+        ensures whole { IfOk result (λ all. IsShelvedAs (C.becomes change.now) all holds (map string_bytes names.now) bodies.now (holding Self.files Self.failed self.old) (holding Self.files Self.failed self.new)) }
+        ensures torn { IfErr result (IsHalfShelvedAsBy (C.becomes change.now) holds (map string_bytes names.now) bodies.now (holding Self.files Self.failed self.old) (holding Self.files Self.failed self.new)) }
         ensures quiet { OnOk result (Self.failed self.new ≡ Self.failed self.old) }
     {
         let mut are_all = true;
         for (i, name) in names.iter().enumerate() {
-            match self.put_changed_kept(alloc, i, name.as_str(), harvest.kept_body(i), change) {
+            match self.put_changed_kept(alloc, i, name.as_str(), &bodies[i], change) {
                 Ok(is_changed) => are_all = are_both(are_all, is_changed),
                 Err(_) => return Err(WriteFault::Device(i)),
             }
@@ -152,8 +164,13 @@ impl<D: Folder> Shelf<Body> for D {
         self.put(name, kept.as_slice())
     }
 
-    fn put_harvest(&mut self, names: &[String], harvest: &Harvest<Body>) -> Result<(), WriteFault> {
-        self.put_site(names, harvest)
+    fn put_bodies(
+        &mut self,
+        names: &[String],
+        _pages: &[Address],
+        bodies: &[Body],
+    ) -> Result<(), WriteFault> {
+        self.put_site(names, bodies)
     }
 
     fn put_changed_kept<C: BodyChange>(

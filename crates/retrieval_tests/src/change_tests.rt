@@ -71,7 +71,8 @@ fn put(rt: &impl Abort, alloc: Global, folder: &mut MemoryFolder) -> Result<bool
     let harvest = harvest_of(rt, alloc);
     let rules = NameRules::default();
     let names = names(alloc, &rules, harvest.kept()).expect(rt, "memory");
-    let put = write_changed_site(alloc, folder, names.as_slice(), &harvest, &Digits, &NoCrew);
+    let (pages, bodies) = (harvest.kept(), harvest.bodies());
+    let put = write_changed_site(alloc, folder, &names, pages, bodies, &Digits, &NoCrew);
     drop(names);
     drop(harvest);
     put

@@ -208,10 +208,9 @@ fn stands<R: Abort + Files + AllocGlobal>(rt: &R, name: &str, bytes: Option<&[u8
 
 /// The bytes of a site's file, if it is one of the first so many.
 fn bytes_of(site: &KeptSite, file: usize, whole: usize) -> Option<&[u8]> {
-    if file < whole && file < site.harvest.kept().len() {
-        Some(site.harvest.body(file))
-    } else {
-        None
+    match site.harvest.bodies().get(file) {
+        Some(body) if file < whole => Some(body.as_slice()),
+        _ => None,
     }
 }
 
@@ -253,10 +252,11 @@ fn put_into<R: Files, C: PartCrew>(
 where
     R::File: Close + Lock,
 {
-    if site.names.len() != site.harvest.kept().len() {
+    let bodies = site.harvest.bodies();
+    if site.names.len() != bodies.len() {
         panic!(rt; "other names");
     }
-    match folder.put_site_by(crew, &site.names, &site.harvest) {
+    match folder.put_site_by(crew, &site.names, bodies) {
         Ok(()) => (site.names.len(), None),
         Err(WriteFault::Device(whole)) => {
             let error = folder.error().expect(rt, "an error");
@@ -294,10 +294,9 @@ fn put_by_threads<R: Abort + Threads + AllocGlobal>(
 
 /// Puts a site into a folder, one file after another. Returns how many files are whole.
 fn put_all(folder: &mut impl Folder, site: &KeptSite) -> usize {
+    let bodies = site.harvest.bodies();
     for (i, name) in site.names.iter().enumerate() {
-        if i >= site.harvest.kept().len()
-            || folder.put(name.as_str(), site.harvest.body(i)).is_err()
-        {
+        if i >= bodies.len() || folder.put(name.as_str(), bodies[i].as_slice()).is_err() {
             return i;
         }
     }
@@ -401,8 +400,8 @@ fn what_a_crew_leaves_out_or_moves_is_put_all_the_same(rt: HostRuntime) {
 /// How many bytes the files of a site have in all.
 fn size_of(site: &KeptSite) -> u64 {
     let mut bytes = 0u64;
-    for i in 0..site.harvest.kept().len() {
-        bytes = bytes.wrapping_add(site.harvest.body(i).len() as u64);
+    for body in site.harvest.bodies() {
+        bytes = bytes.wrapping_add(body.as_slice().len() as u64);
     }
     bytes
 }

@@ -112,6 +112,14 @@ fn keep_to_the_end<B: Drop>(retrieved: Result<Harvest<B>, Halt<B>>) {
     mem::forget(retrieved);
 }
 
+// Tells the system that the run has ended, and with what.
+fn end_index<S: System, B: Drop>(system: &S, retrieved: &Result<Harvest<B>, Halt<B>>) {
+    match retrieved {
+        Ok(harvest) => system.end_index(harvest, true),
+        Err(halt) => system.end_index(&halt.harvest, false),
+    }
+}
+
 // Retrieves the live site that the order says, by these fetchers, into a folder.
 fn live_into<
     H: Threads + Wait + Sync,
@@ -143,7 +151,7 @@ where
     tell_moves(alloc, system, &retrieved);
     tell_quota(system, &retrieved);
     hand_over(log_of(alloc, order, &retrieved), log);
-    system.end_index(retrieved.is_ok());
+    end_index(system, &retrieved);
     keep_to_the_end(retrieved);
     status
 }

@@ -157,7 +157,9 @@ fn put_changed<H: Threads, B: HasKind + Drop, D: Shelf<B>>(
 {
     let change = LinkChange::of(alloc, harvest, names);
     let crew = LinkThreads::new(rt, &change);
-    write_changed_site(alloc, folder, names, harvest, &change, &crew)
+    let pages = harvest.kept();
+    let bodies = harvest.bodies();
+    write_changed_site(alloc, folder, names, pages, bodies, &change, &crew)
 }
 
 // Puts the kept pages of a harvest into the folder under these names, with their links changed or not. Whether all are that are to be.
@@ -178,7 +180,7 @@ fn put<H: Threads, B: HasKind + Drop, D: Shelf<B>>(
     if converts {
         return put_changed(rt, alloc, names, harvest, folder);
     }
-    match write_site(folder, names, harvest) {
+    match write_site(folder, names, harvest.kept(), harvest.bodies()) {
         Ok(()) => Ok(true),
         Err(fault) => Err(fault),
     }

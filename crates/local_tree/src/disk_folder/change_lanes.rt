@@ -1,7 +1,7 @@
 //! Files that are changed side by side: each lane takes some of them, one after another.
-use super::Known;
 use super::file_changes::FileChange;
 use super::originals::Keeping;
+use super::places::Known;
 use crate::body_change::BodyChange;
 use part_keeper::KeptPart;
 use std::alloc::Global;

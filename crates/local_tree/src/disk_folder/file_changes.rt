@@ -2,7 +2,7 @@
 //! whole.
 use super::change_lanes::FileToChange;
 use super::originals::{HIDDEN, ORIGINAL, Originals};
-use super::{Known, find_place, look_for_file, path_below, put_by_way_of};
+use super::places::{Known, find_place, look_for_file, path_below, put_by_way_of};
 use crate::body_change::{BodyChange, ChangeFault};
 use crate::parts::write_new;
 use kept_bodies::BodyKind;

@@ -3,12 +3,13 @@ use Rattle.std.proofs.Common.{◌≡◌, true, false, [], map, length, refl, sym
 use Rattle.std.specs.Result.{is_err}
 use Rattle.std.specs.String.{string_bytes}
 use Rattle.std.proofs.lemmas.List.{length-map, get_or-map}
+use Rattle.std.proofs.lemmas.Option.{slice_get_read}
 use Rattle.kept_bodies.specs.Bodies.{bytes_of}
 use Rattle.local_tree.specs.Folders.{one_more_refused}
 use Rattle.local_tree.specs.SiteFiles.{AreWritten, OfFiles}
 use Rattle.local_tree.proofs.ShelfLaws.{body_at}
 use Rattle.local_tree.proofs.SiteFilesLaws.{none_written, made, failed, same_count, one_more, put_written, put_torn, risen}
-use Rattle.local_tree.proofs.shelf.Shelf.put_harvest.Goals as goal
+use Rattle.local_tree.proofs.shelf.Shelf.put_bodies.Goals as goal
 
 pub loop-i-preserved : goal.loop-i-preserved
 loop-i-preserved g c =
@@ -17,9 +18,10 @@ loop-i-preserved g c =
     let below = c.loop-i-test.true in
     let long : length names ≡ length c.args.names.now = length-map c.args.names.now string_bytes in
     let name = c.as_str.ensures.value ∙ ap string_bytes c.index-names-i.is ∙ sym (get_or-map string_bytes c.args.names.now c.loop-i.i c.index-names-i.result [] (omega (arith, below))) in
+    let there = slice_get_read c.args.bodies.now (length c.args.bodies.now) c.loop-i.i c.index-bodies-i.result refl (omega (arith, below, c.requires.count)) c.index-bodies-i.is in
     record {
       files = λ bodies are.
-          let (body, held, is) = body_at g.Self.Shelf.holds c.args.harvest.now.bodies bodies c.loop-i.i c.kept_body.result.now c.kept_body.ensures are in
+          let (body, held, is) = body_at g.Self.Shelf.holds c.args.bodies.now bodies c.loop-i.i c.index-bodies-i.result there are in
           put_written names (bytes_of bodies) c.loop-i.i c.as_str.result.now body.bytes (g.Self.Folder.files c.args.self.now) (g.Self.Folder.files c.loop-i.self) (g.Self.Folder.files c.put_kept.new.self)
           c.requires.distinct (omega (arith, below, long)) name is (c.loop-i.invariant.files bodies are) (made c.put_kept.result _ ended c.put_kept.ensures.put body held);
       quiet = same_count c.put_kept.result (g.Self.Folder.failed c.loop-i.self) (g.Self.Folder.failed c.put_kept.new.self) ended c.put_kept.ensures.counted ∙ c.loop-i.invariant.quiet;

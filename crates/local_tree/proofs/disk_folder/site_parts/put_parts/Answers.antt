@@ -1,6 +1,6 @@
 -- A put that was made leaves the count of those that failed; one that failed has raised it.
 use Rattle.local_tree.proofs.PartLaws.{at_first, one_put}
-use Rattle.local_tree.proofs.disk_folder.named_parts.put_parts.Goals as goal
+use Rattle.local_tree.proofs.disk_folder.site_parts.put_parts.Goals as goal
 
 pub loop-i-init : goal.loop-i-init
 loop-i-init g c = at_first (g.D.NamesParts.failed c.args.folder.now)
