@@ -13,9 +13,9 @@ use frontier_core::{
     AnswerFault, Cause, Event, Frontier, OriginPermit, Permit, Rejected, RejectedRules,
     SpreadFault, Work,
 };
+use observer::Observer;
 use robots_rules::RuleSet;
 use std::alloc::AllocError;
-use std::sync::atomic::{AtomicUsize, Ordering};
 use std::sync::{Condvar, Mutex, Wait};
 
 /// A permit with what was answered. It can't be dropped: it is given, or taken apart.
@@ -52,11 +52,10 @@ pub struct Unanswered {
 
 /// A frontier that many workers share.
 #[derive(Drop)]
-pub struct FrontierLock<'a> {
+pub struct FrontierLock<'a, O: Observer> {
     core: Mutex<Frontier>,
     work_available: Condvar,
-    // How many addresses wait, for observers. They take no lock.
-    waiting: Option<&'a AtomicUsize>,
+    observer: &'a O,
 }
 
 // Takes work for the worker. While somebody may be asleep nothing changes, so that nobody has to be woken.
@@ -248,19 +247,14 @@ fn make<A, T, S: FnOnce(&mut Frontier, A) -> T>(core: &mut Frontier, step: S, to
     (answer, wakes)
 }
 
-impl<'a> FrontierLock<'a> {
-    /// Shares a frontier. Takes no memory.
-    pub fn new(core: Frontier) -> Self {
-        FrontierLock::watched(core, None)
-    }
-
-    /// Shares a frontier, and keeps in `waiting` how many addresses wait, counted like `Frontier::waiting`, from the first call
-    /// on. It is for observers without the lock: no clause speaks of it. Takes no memory.
-    pub fn watched(core: Frontier, waiting: Option<&'a AtomicUsize>) -> Self {
+impl<'a, O: Observer> FrontierLock<'a, O> {
+    /// Shares a frontier. Each call tells the observer how many addresses wait after it, counted like `Frontier::waiting`, with
+    /// the lock held, so that the last number is the newest. Takes no memory.
+    pub fn new(core: Frontier, observer: &'a O) -> Self {
         FrontierLock {
             core: Mutex::new(core),
             work_available: Condvar::new(),
-            waiting,
+            observer,
         }
     }
 
@@ -282,7 +276,7 @@ impl<'a> FrontierLock<'a> {
             match take(&mut core, worker) {
                 Ok(Work::Busy) => core = self.work_available.wait(rt, core),
                 other => {
-                    self.note_waiting(&core);
+                    self.tell_waiting(&core);
                     return other;
                 }
             }
@@ -315,7 +309,7 @@ impl<'a> FrontierLock<'a> {
         let (answer, wakes) = {
             let mut core = self.core.lock(rt);
             let told = exchange_and_tell(&mut core, worker, done);
-            self.note_waiting(&core);
+            self.tell_waiting(&core);
             told
         };
         if wakes {
@@ -341,7 +335,7 @@ impl<'a> FrontierLock<'a> {
         let (answer, wakes) = {
             let mut core = self.core.lock(rt);
             let told = answer_and_tell(&mut core, worker, permit, outcome);
-            self.note_waiting(&core);
+            self.tell_waiting(&core);
             told
         };
         if wakes {
@@ -360,7 +354,7 @@ impl<'a> FrontierLock<'a> {
         )
     }
 
-    // Makes one locked step, notes how many addresses wait, and wakes all who sleep, with the lock free again, if it says so.
+    // Makes one locked step, tells how many addresses wait, and wakes all who sleep, with the lock free again, if it says so.
     // Whom this wakes no clause can say.
     fn step<R: Wait, A, T, S: FnOnce(&mut Frontier, A) -> T>(&self, rt: &R, step: S, told: A) -> T
         requires call { S.IsAlwaysCallable step }
@@ -370,7 +364,7 @@ impl<'a> FrontierLock<'a> {
         let (answer, wakes) = {
             let mut core = self.core.lock(rt);
             let made = make(&mut core, step, told);
-            self.note_waiting(&core);
+            self.tell_waiting(&core);
             made
         };
         if wakes {
@@ -379,11 +373,9 @@ impl<'a> FrontierLock<'a> {
         answer
     }
 
-    // Notes how many addresses wait, if somebody observes it.
-    fn note_waiting(&self, core: &Frontier) {
-        if let Some(waiting) = self.waiting {
-            waiting.store(core.waiting(), Ordering::Relaxed);
-        }
+    // Tells the observer how many addresses wait.
+    fn tell_waiting(&self, core: &Frontier) {
+        self.observer.waiting(core.waiting());
     }
 
     /// The frontier again. Takes no memory.
@@ -391,7 +383,7 @@ impl<'a> FrontierLock<'a> {
         let FrontierLock {
             core,
             work_available: _,
-            waiting: _,
+            observer: _,
         } = self;
         core.into_inner()
     }

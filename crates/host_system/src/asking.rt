@@ -3,7 +3,6 @@ use crate::shared_failures::SharedFailures;
 use address::{Address, Origin};
 use answer_notes::{Noted, Recording};
 use fetcher::{Answer, Ask, Body, Fetcher};
-use progress::ProgressLine;
 use record_journal::{Journaled, Pen};
 use robots_rules::RuleSet;
 use run_failures::LossKind;
@@ -14,14 +13,12 @@ use std::sync::Wait;
 use std::time::Clock;
 use tcp_fetcher::OverTcp;
 
-/// Asks over TCP, shows on the terminal what results, hands what is received to the journal of the run, and keeps why a
-/// connection was lost.
+/// Asks over TCP, hands what is received to the journal of the run, and keeps why a connection was lost.
 // It has a type of its own, like what it asks, since a call at a type that names all these parts costs its proof more than
 // the checker allows.
 pub struct Asking<'a, R: Net + Wait + Files + Clock + Eprint> {
     pub(crate) inner: Journaled<OverTcp<'a, R>, Pen<'a, R, R>>,
     pub(crate) rt: &'a R,
-    pub(crate) progress: &'a ProgressLine<'a, R>,
     pub(crate) failures: &'a SharedFailures,
 }
 
@@ -31,7 +28,6 @@ impl<'a, R: Net + Wait + Files + Clock + Eprint> Drop for Asking<'a, R> {
         let Asking {
             inner: _inner,
             rt: _rt,
-            progress: _progress,
             failures: _failures,
         } = self;
     }
@@ -88,10 +84,6 @@ impl<'a, R: Net + Wait + Files + Clock + Eprint> Fetcher for Asking<'a, R> {
 
     fn asks(&self) -> &[Ask] {
         self.inner.asks()
-    }
-
-    fn tell_recorded(&mut self) {
-        self.progress.took_recorded();
     }
 }
 

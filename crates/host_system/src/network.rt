@@ -20,7 +20,6 @@ use std::alloc::{AllocError, Global};
 use std::fs::Files;
 use std::net::Net;
 use std::sync::Wait;
-use std::sync::atomic::AtomicUsize;
 use std::thread::Threads;
 use std::time::Clock;
 use streams::{Close, Lock, ReadInputFault};
@@ -132,7 +131,6 @@ impl<'a, R: Net + Wait + Files + Clock + Eprint> HostSystem<'a, R> {
         Ok(Asking {
             inner: Journaled::new(self.alloc, fetcher, pen, is_recording),
             rt: self.rt,
-            progress: self.progress,
             failures: self.failures,
         })
     }
@@ -193,6 +191,8 @@ where
 
     type Record = Saved<'a, R>;
 
+    type Observer = ProgressLine<'a, R>;
+
     ghost makes = { λ network settings fetcher. (fetcher.inner.links ≡ settings.links) × (fetcher.inner.keeps ≡ is_some settings.kept) × (fetcher.inner.most ≡ settings.kept) × (fetcher.inner.sends ≡ Some (record settings.sends { jar = network.jar })) × (fetcher.inner.retries ≡ settings.retries) × (fetcher.inner.limits ≡ limits_of settings.manner.body_limit) × (fetcher.inner.takes_times ≡ settings.takes_times) };
 
     ghost makes_recorder = { λ network settings fetcher. (fetcher.inner.inner.links ≡ settings.links) × (fetcher.inner.inner.keeps ≡ is_some settings.kept) × (fetcher.inner.inner.most ≡ settings.kept) × (fetcher.inner.inner.sends ≡ Some (record settings.sends { jar = network.jar })) × (fetcher.inner.inner.retries ≡ settings.retries) × (fetcher.inner.inner.limits ≡ limits_of settings.manner.body_limit) × (fetcher.inner.is_recording ≡ settings.is_recording) };
@@ -236,8 +236,8 @@ where
         self.failures.say(self.rt, text);
     }
 
-    fn waiting(&self) -> Option<&AtomicUsize> {
-        Some(self.progress.waiting())
+    fn observer(&self) -> &ProgressLine<'a, R> {
+        self.progress
     }
 
     fn folder(&self, path: &str, originals: Originals) -> Result<PageFolder<'a, R>, AllocError> {

@@ -9,13 +9,13 @@ use fetcher::Fetcher;
 use harvest::Harvest;
 use html_links::LinkRules;
 use local_tree::{HasKind, Originals, Shelf};
+use observer::Observer;
 use options::Order;
 use pacing::{Manner, Retries};
 use requests::{Proxies, Sending};
 use std::alloc::{AllocError, Global};
 use std::io::Write;
 use std::marker::Model;
-use std::sync::atomic::AtomicUsize;
 use streams::ReadInputFault;
 
 /// Why a run may not save at a path, or go on from what is in a folder.
@@ -74,6 +74,9 @@ pub trait System {
 
     /// What the record of a run is written into.
     type Record: Write + Drop;
+
+    /// Who hears how a run goes on.
+    type Observer: Observer + Sync;
 
     // The fetchers that may be given for these settings.
     ghost makes: { Self → Settings → Self.Fetcher → Type 0 };
@@ -146,8 +149,6 @@ pub trait System {
     /// Writes this for a person when the run has ended: lines, each with its end, or nothing.
     fn tell(&self, _text: &str) {}
 
-    /// The counter of waiting addresses that the progress line shows, if any.
-    fn waiting(&self) -> Option<&AtomicUsize> {
-        None
-    }
+    /// Who hears how this run goes on.
+    fn observer(&self) -> &Self::Observer;
 }

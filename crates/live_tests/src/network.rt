@@ -1,6 +1,8 @@
-//! A network for tests: it knows a few hosts by name, and reports the requests. Its clock goes only while somebody sleeps.
+//! A network for tests: it knows a few hosts by name, and reports the requests. Its clock goes only while somebody sleeps, or when a test
+//! sets it. It has a terminal of its own.
 use std::alloc::Global;
-use std::io::{ErrorKind, Read, Write};
+use std::fmt::{Display, Write};
+use std::io::{ErrorKind, Read};
 use std::net::{IpAddr, Net, OpenListener, OpenStream, SocketAddr};
 use std::os::fd::{AsRawFd, OwnedFd, RawFd};
 use std::process::Abort;
@@ -70,6 +72,8 @@ pub struct CallLog {
     pub undelayed: AtomicU64,
     /// The milliseconds that were slept.
     pub clock: AtomicU64,
+    /// What was written to the terminal.
+    pub shown: Mutex<String>,
     // Whether there is no descriptor, if one looks for that.
     is_full: AtomicBool,
 }
@@ -103,6 +107,7 @@ impl<'a, R: Wait + Abort> Network<'a, R> {
             limits: [AtomicU64::new(0), AtomicU64::new(0), AtomicU64::new(0)],
             undelayed: AtomicU64::new(0),
             clock: AtomicU64::new(0),
+            shown: Mutex::new(String::new(alloc)),
             is_full: AtomicBool::new(false),
         };
         Network {
@@ -142,6 +147,17 @@ impl<'a, R: Wait + Abort> Network<'a, R> {
     /// The milliseconds that were slept.
     pub fn clock(&self) -> u64 {
         self.log.clock.load(Ordering::SeqCst)
+    }
+
+    /// Sets the clock.
+    pub fn set_clock(&self, millis: u64) {
+        self.log.clock.store(millis, Ordering::SeqCst);
+    }
+
+    /// Whether this was written to the terminal.
+    pub fn shows(&self, wanted: &str) -> bool {
+        let shown = self.log.shown.lock(self.rt);
+        shown.as_str() == wanted
     }
 
     // Whether a connection was requested there once.
@@ -216,6 +232,18 @@ impl<R: Wait + Abort> Clock for Network<'_, R> {
     }
 }
 
+impl<R: Wait + Abort> Eprint for Network<'_, R> {
+    fn eprint<D: Display + Drop>(&self, value: D) -> io::Result<()> {
+        let mut shown = self.log.shown.lock(self.rt);
+        write!(shown, "{value}").expect(self.rt, "memory");
+        Ok(())
+    }
+
+    fn eprintln<D: Display + Drop>(&self, value: D) -> io::Result<()> {
+        self.eprint(value)
+    }
+}
+
 // A time in milliseconds.
 fn millis(duration: Duration) -> u64 {
     u64::try_from(duration.as_millis()).unwrap_or(u64::MAX)
@@ -282,7 +310,7 @@ impl Read for FakeStream {
     }
 }
 
-impl Write for FakeStream {
+impl io::Write for FakeStream {
     fn write(&mut self, buf: &[u8]) -> io::Result<usize> {
         match self.server.port() {
             LOSES_WRITES => Err(io::Error::from(ErrorKind::BrokenPipe)),

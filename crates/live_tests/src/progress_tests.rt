@@ -2,64 +2,19 @@
 use crate::connect_tests::origin;
 use crate::network::Network;
 use address::Origin;
-use http_fetcher::{Connect, ConnectFault};
-use memory_connect::MemoryConnect;
-use progress::{ProgressLine, Watched};
+use http_fetcher::Connect;
+use observer::Observer;
+use progress::ProgressLine;
 use response_reader::Wire;
 use std::alloc::Global;
 use std::fmt::{Display, Write};
 use std::process::Abort;
+use std::sync::Wait;
 use std::sync::atomic::{AtomicU64, Ordering};
-use std::sync::{Mutex, Wait};
 use std::time::{Clock, Duration};
 use std::{io, thread};
 use tcp_connect::{Hosts, TcpConnect};
-
-/// A terminal whose clock is set by the test, and what was written to it.
-#[derive(Drop)]
-struct Terminal<'a, R: Abort + Wait> {
-    rt: &'a R,
-    now: AtomicU64,
-    text: Mutex<String>,
-}
-
-impl<'a, R: Abort + Wait> Terminal<'a, R> {
-    fn new(rt: &'a R, alloc: Global) -> Terminal<'a, R> {
-        Terminal {
-            rt,
-            now: AtomicU64::new(1000),
-            text: Mutex::new(String::new(alloc)),
-        }
-    }
-
-    // Whether this was written to it.
-    fn holds(&self, wanted: &str) -> bool {
-        let text = self.text.lock(self.rt);
-        text.as_str() == wanted
-    }
-}
-
-impl<R: Abort + Wait> Clock for Terminal<'_, R> {
-    fn monotonic(&self) -> io::Result<Duration> {
-        Ok(Duration::from_millis(self.now.load(Ordering::SeqCst)))
-    }
-
-    fn since_1970(&self) -> io::Result<Duration> {
-        self.monotonic()
-    }
-}
-
-impl<R: Abort + Wait> Eprint for Terminal<'_, R> {
-    fn eprint<D: Display + Drop>(&self, value: D) -> io::Result<()> {
-        let mut text = self.text.lock(self.rt);
-        write!(text, "{value}").expect(self.rt, "memory");
-        Ok(())
-    }
-
-    fn eprintln<D: Display + Drop>(&self, value: D) -> io::Result<()> {
-        self.eprint(value)
-    }
-}
+use tcp_fetcher::ObservedTcp;
 
 /// When a connection ends, where it goes, and how many addresses wait then. What ports 82 and 84 send is 2,000 bytes in two
 /// pieces; connections to 83 break at a read, those to 84 at a write. Each is sent 1,000 bytes, which aren't counted.
@@ -89,32 +44,31 @@ fn use_once<C: Connect>(connect: &mut C, of: &Origin) {
 }
 
 /// Makes these connections.
-fn make_connections<R: Abort + Wait, C: Connect>(
+fn make_connections<R: Abort + Wait>(
     rt: &R,
     alloc: Global,
-    inner: C,
-    terminal: &Terminal<'_, R>,
-    progress: &ProgressLine<'_, Terminal<'_, R>>,
+    network: &Network<'_, R>,
+    connect: &mut ObservedTcp<'_, Network<'_, R>>,
+    progress: &ProgressLine<'_, Network<'_, R>>,
 ) {
-    let mut connect = Watched::new(inner, progress);
     for (at, text, waiting) in ENDS {
-        terminal.now.store(*at, Ordering::SeqCst);
-        progress.waiting().store(*waiting, Ordering::Relaxed);
-        use_once(&mut connect, &origin(rt, alloc, text));
+        network.set_clock(*at);
+        progress.waiting(*waiting);
+        use_once(connect, &origin(rt, alloc, text));
     }
 }
 
-/// Makes them over a network of their own.
+/// Makes them by what the line observes.
 fn run<R: Abort + Wait>(
     rt: &R,
     alloc: Global,
-    terminal: &Terminal<'_, R>,
-    progress: &ProgressLine<'_, Terminal<'_, R>>,
+    network: &Network<'_, R>,
+    progress: &ProgressLine<'_, Network<'_, R>>,
 ) {
-    let network = Network::new(rt, alloc);
     let hosts = Hosts::new(alloc);
-    let connect = TcpConnect::new(&network, alloc, &hosts);
-    make_connections(rt, alloc, connect, terminal, progress);
+    let inner = TcpConnect::new(network, alloc, &hosts);
+    let mut connect = ObservedTcp::new(inner, progress);
+    make_connections(rt, alloc, network, &mut connect, progress);
 }
 
 /// What is on the terminal after the lines: each is covered before the next, and so is the last.
@@ -129,12 +83,13 @@ fn shown(rt: &impl Abort, alloc: Global) -> String {
 
 /// Whether the lines are on the terminal after the connections, once the line is cleared.
 fn shows<R: Abort + Wait>(rt: &R, alloc: Global) -> bool {
-    let terminal = Terminal::new(rt, alloc);
-    let progress = ProgressLine::new(&terminal, true);
-    run(rt, alloc, &terminal, &progress);
+    let network = Network::new(rt, alloc);
+    network.set_clock(1000);
+    let progress = ProgressLine::new(&network, true);
+    run(rt, alloc, &network, &progress);
     progress.clear();
     progress.clear();
-    terminal.holds(shown(rt, alloc).as_str())
+    network.shows(shown(rt, alloc).as_str())
 }
 
 #[test]
@@ -179,23 +134,13 @@ impl Eprint for Meeting {
     }
 }
 
-/// How often two workers end a connection at one time.
+/// How often two workers end a request at one time.
 const MEETINGS: u64 = 1000;
 
-/// Makes so many connections of a worker.
-fn work<C: Connect>(
-    rt: &impl Abort,
-    alloc: Global,
-    inner: C,
-    progress: &ProgressLine<'_, Meeting>,
-) {
-    let of = origin(rt, alloc, "http://h/");
-    let mut connect = Watched::new(inner, progress);
+/// Ends so many requests of a worker.
+fn end_requests(progress: &ProgressLine<'_, Meeting>) {
     for _ in 0..MEETINGS {
-        let Ok(wire) = connect.connect(&of) else {
-            panic!(rt; "memory");
-        };
-        connect.close(wire);
+        progress.ended(false, 0);
     }
 }
 
@@ -206,24 +151,6 @@ fn two_workers_do_not_write_one_line_twice(rt: HostRuntime) {
         lines: AtomicU64::new(0),
     };
     let progress = ProgressLine::new(&terminal, true);
-    thread::join(
-        &rt,
-        || {
-            work(
-                &rt,
-                rt.alloc(),
-                MemoryConnect::new(rt.alloc(), &[], &[]),
-                &progress,
-            )
-        },
-        || {
-            work(
-                &rt,
-                rt.alloc(),
-                MemoryConnect::new(rt.alloc(), &[], &[]),
-                &progress,
-            )
-        },
-    );
+    thread::join(&rt, || end_requests(&progress), || end_requests(&progress));
     assert_eq!(rt; terminal.lines.load(Ordering::SeqCst), MEETINGS);
 }

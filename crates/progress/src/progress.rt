@@ -1,11 +1,12 @@
 //! The line, and what it counts.
+use observer::Observer;
 use std::sync::atomic::{AtomicU64, AtomicUsize, Ordering};
 use std::time::{Clock, Instant};
 
 /// The least milliseconds between two lines.
 const PAUSE: u64 = 250;
 
-/// Counts what the connections of a run did, and reports it on standard error at most four times a second. All workers of
+/// Counts what came over connections and from records, and reports it on standard error at most four times a second. All workers of
 /// a run share it.
 #[derive(Drop)]
 pub struct ProgressLine<'a, R: Clock + Eprint> {
@@ -16,7 +17,7 @@ pub struct ProgressLine<'a, R: Clock + Eprint> {
     failed: AtomicU64,
     // How many answers came from a record.
     recorded: AtomicU64,
-    // How many addresses wait, by the last note of who knows it.
+    // How many addresses wait, by the last call that said it.
     waiting: AtomicUsize,
     bytes: AtomicU64,
     // How many milliseconds after the start the next line may be written.
@@ -40,26 +41,6 @@ impl<'a, R: Clock + Eprint> ProgressLine<'a, R> {
         }
     }
 
-    // Counts a connection that has ended, over which so many bytes came, and shows the line if it is due.
-    pub(crate) fn ended(&self, failed: bool, bytes: u64) {
-        let Some(start) = &self.start else {
-            return;
-        };
-        let count = if failed { &self.failed } else { &self.answered };
-        count.fetch_add(1, Ordering::SeqCst);
-        self.bytes.fetch_add(bytes, Ordering::SeqCst);
-        self.show_due(start);
-    }
-
-    /// Counts an answer that came from a record, and shows the line if it is due.
-    pub fn took_recorded(&self) {
-        let Some(start) = &self.start else {
-            return;
-        };
-        self.recorded.fetch_add(1, Ordering::SeqCst);
-        self.show_due(start);
-    }
-
     // Shows the line if it is due.
     fn show_due(&self, start: &Instant) {
         let Ok(elapsed) = start.elapsed(self.rt) else {
@@ -69,11 +50,6 @@ impl<'a, R: Clock + Eprint> ProgressLine<'a, R> {
         if self.is_due(now) {
             self.show(now);
         }
-    }
-
-    /// The place in which it is noted how many addresses wait: the line shows the number that is there.
-    pub fn waiting(&self) -> &AtomicUsize {
-        &self.waiting
     }
 
     // Whether the line is due, and this caller is the one to write it.
@@ -114,5 +90,36 @@ impl<'a, R: Clock + Eprint> ProgressLine<'a, R> {
         if due != PAUSE && due != u64::MAX {
             let _ = eprint!(self.rt; "\r{:79}\r", "");
         }
+    }
+}
+
+impl<'a, R: Clock + Eprint> Observer for ProgressLine<'a, R> {
+    // Shows the line if it is due.
+    fn ended(&self, has_failed: bool, bytes: u64) {
+        let Some(start) = &self.start else {
+            return;
+        };
+        let count = if has_failed {
+            &self.failed
+        } else {
+            &self.answered
+        };
+        count.fetch_add(1, Ordering::SeqCst);
+        self.bytes.fetch_add(bytes, Ordering::SeqCst);
+        self.show_due(start);
+    }
+
+    // Shows the line if it is due.
+    fn recorded(&self) {
+        let Some(start) = &self.start else {
+            return;
+        };
+        self.recorded.fetch_add(1, Ordering::SeqCst);
+        self.show_due(start);
+    }
+
+    // The next line shows it: who calls this may have a lock.
+    fn waiting(&self, count: usize) {
+        self.waiting.store(count, Ordering::Relaxed);
     }
 }

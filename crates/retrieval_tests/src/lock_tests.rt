@@ -4,6 +4,7 @@ use address::Address;
 use fetcher::{Edge, EdgeKind, Edges, Outcome};
 use frontier_core::{Cause, Frontier, Permit, Work};
 use frontier_lock::{Done, FrontierLock, HeldPermit, Refused};
+use observer::Observer;
 use std::alloc::Global;
 use std::process::Abort;
 use std::sync::Wait;
@@ -17,9 +18,38 @@ fn opened(rt: &impl Abort, alloc: Global) -> Frontier {
     Frontier::open(alloc, plan).expect(rt, "memory")
 }
 
+/// Keeps how many wait, as it is told.
+#[derive(Drop)]
+struct Waiting {
+    count: AtomicUsize,
+}
+
+impl Waiting {
+    /// Before anything is told.
+    fn new() -> Waiting {
+        Waiting {
+            count: AtomicUsize::new(1),
+        }
+    }
+
+    /// How many wait, as it was told last.
+    fn seen(&self) -> usize {
+        self.count.load(Ordering::Relaxed)
+    }
+}
+
+impl Observer for Waiting {
+    fn waiting(&self, count: usize) {
+        self.count.store(count, Ordering::Relaxed);
+    }
+}
+
+/// The lock of these tests.
+type Lock<'a> = FrontierLock<'a, Waiting>;
+
 /// That frontier behind a lock.
-fn locked(rt: &impl Abort, alloc: Global) -> FrontierLock<'static> {
-    FrontierLock::new(opened(rt, alloc))
+fn locked<'a>(rt: &impl Abort, alloc: Global, waiting: &'a Waiting) -> Lock<'a> {
+    FrontierLock::new(opened(rt, alloc), waiting)
 }
 
 /// A page with a link to each of these.
@@ -49,7 +79,7 @@ enum Told {
 }
 
 /// What the worker receives.
-fn tell(rt: &impl Wait, lock: &FrontierLock, work: Work) -> Told {
+fn tell(rt: &impl Wait, lock: &Lock, work: Work) -> Told {
     match work {
         Work::Stopped(cause) => Told::Stopped(cause),
         Work::Spread => Told::Spread,
@@ -67,19 +97,19 @@ fn tell(rt: &impl Wait, lock: &FrontierLock, work: Work) -> Told {
 }
 
 /// What worker 1 receives at once.
-fn told_now<R: Abort + Wait>(rt: &R, lock: &FrontierLock) -> Told {
+fn told_now<R: Abort + Wait>(rt: &R, lock: &Lock) -> Told {
     let work = lock.next(rt, 1).expect(rt, "memory");
     tell(rt, lock, work)
 }
 
 /// The permit for a page that the worker gets.
-fn page_permit<R: Abort + Wait>(rt: &R, lock: &FrontierLock, worker: u32) -> Permit {
+fn page_permit<R: Abort + Wait>(rt: &R, lock: &Lock, worker: u32) -> Permit {
     let work = lock.next(rt, worker).expect(rt, "memory");
     permit_of(rt, lock, work)
 }
 
 /// The permit for the page that a worker is to request.
-fn permit_of<R: Abort + Wait>(rt: &R, lock: &FrontierLock, work: Work) -> Permit {
+fn permit_of<R: Abort + Wait>(rt: &R, lock: &Lock, work: Work) -> Permit {
     let Work::Page(permit) = work else {
         tell(rt, lock, work);
         panic!(rt; "no page");
@@ -97,19 +127,14 @@ fn held_of(refused: Refused) -> HeldPermit {
 }
 
 /// Hands the page's outcome over; one that isn't taken is given up.
-fn give(rt: &impl Wait, lock: &FrontierLock, permit: Permit, outcome: Outcome) {
+fn give(rt: &impl Wait, lock: &Lock, permit: Permit, outcome: Outcome) {
     if let Err(refused) = lock.give(rt, Done::Page(permit, outcome)) {
         lock.halt(rt, Some(held_of(refused)), Cause::Mismatch);
     }
 }
 
 /// Hands the page's outcome over for worker 0's next work; one that isn't taken is given up.
-fn exchange<R: Abort + Wait>(
-    rt: &R,
-    lock: &FrontierLock,
-    permit: Permit,
-    outcome: Outcome,
-) -> Work {
+fn exchange<R: Abort + Wait>(rt: &R, lock: &Lock, permit: Permit, outcome: Outcome) -> Work {
     match lock.give_and_take(rt, 0, Done::Page(permit, outcome)) {
         Ok(work) => work,
         Err(refused) => {
@@ -119,21 +144,16 @@ fn exchange<R: Abort + Wait>(
     }
 }
 
-/// How many wait, as an observer sees it.
-fn seen(waiting: &AtomicUsize) -> usize {
-    waiting.load(Ordering::Relaxed)
-}
-
 /// Has the lock's two pages requested and answered by worker 0, and asserts what is received and what waits between.
-fn go_through<R: Abort + Wait>(rt: &R, alloc: Global, lock: &FrontierLock, waiting: &AtomicUsize) {
+fn go_through<R: Abort + Wait>(rt: &R, alloc: Global, lock: &Lock, waiting: &Waiting) {
     let permit = page_permit(rt, lock, 0);
-    assert!(rt; seen(waiting) == 0);
+    assert!(rt; waiting.seen() == 0);
     give(rt, lock, permit, page(rt, alloc));
     assert!(rt; told_now(rt, lock) == Told::Spread);
-    assert!(rt; seen(waiting) == 1);
+    assert!(rt; waiting.seen() == 1);
     assert!(rt; lock.spread(rt).is_ok());
     let permit = page_permit(rt, lock, 0);
-    assert!(rt; seen(waiting) == 0);
+    assert!(rt; waiting.seen() == 0);
     assert!(rt; permit.address().as_str() == "http://h/a");
     assert!(rt; told_now(rt, lock) == Told::Busy);
     give(rt, lock, permit, Outcome::Leaf(200));
@@ -146,7 +166,7 @@ fn is_quiet(frontier: &Frontier) -> bool {
 }
 
 /// Whether a lock is left with nothing to do.
-fn is_left_quiet(lock: FrontierLock) -> bool {
+fn is_left_quiet(lock: Lock) -> bool {
     let frontier = lock.into_frontier();
     let is_quiet = is_quiet(&frontier);
     drop(frontier);
@@ -155,43 +175,38 @@ fn is_left_quiet(lock: FrontierLock) -> bool {
 
 #[test]
 fn the_edges_of_a_page_are_offered(rt: HostRuntime) {
-    let waiting = AtomicUsize::new(1);
-    let lock = FrontierLock::watched(opened(&rt, rt.alloc()), Some(&waiting));
+    let waiting = Waiting::new();
+    let lock = locked(&rt, rt.alloc(), &waiting);
     go_through(&rt, rt.alloc(), &lock, &waiting);
     assert!(rt; is_left_quiet(lock));
 }
 
 /// Has the lock's pages requested by worker 0, each answer in exchange for the next.
-fn exchange_all<R: Abort + Wait>(
-    rt: &R,
-    alloc: Global,
-    lock: &FrontierLock,
-    waiting: &AtomicUsize,
-) {
+fn exchange_all<R: Abort + Wait>(rt: &R, alloc: Global, lock: &Lock, waiting: &Waiting) {
     let permit = page_permit(rt, lock, 0);
     let links = page_to(rt, alloc, &["http://h/a", "http://h/b"]);
     let work = exchange(rt, lock, permit, links);
     let permit = permit_of(rt, lock, work);
     assert!(rt; permit.address().as_str() == "http://h/a");
-    assert!(rt; seen(waiting) == 1);
+    assert!(rt; waiting.seen() == 1);
     let work = exchange(rt, lock, permit, Outcome::Leaf(200));
     let permit = permit_of(rt, lock, work);
     assert!(rt; permit.address().as_str() == "http://h/b");
-    assert!(rt; seen(waiting) == 0);
+    assert!(rt; waiting.seen() == 0);
     let work = exchange(rt, lock, permit, Outcome::Leaf(200));
     assert!(rt; tell(rt, lock, work) == Told::Quiet);
 }
 
 #[test]
 fn an_answer_is_exchanged_for_the_next_page(rt: HostRuntime) {
-    let waiting = AtomicUsize::new(1);
-    let lock = FrontierLock::watched(opened(&rt, rt.alloc()), Some(&waiting));
+    let waiting = Waiting::new();
+    let lock = locked(&rt, rt.alloc(), &waiting);
     exchange_all(&rt, rt.alloc(), &lock, &waiting);
     assert!(rt; is_left_quiet(lock));
 }
 
 /// Hands an answer to a lock that didn't give its permit, and then to the one that did.
-fn go_astray<R: Abort + Wait>(rt: &R, own: &FrontierLock, other: &FrontierLock) {
+fn go_astray<R: Abort + Wait>(rt: &R, own: &Lock, other: &Lock) {
     let permit = page_permit(rt, own, 0);
     match other.give_and_take(rt, 0, Done::Page(permit, Outcome::Leaf(200))) {
         Ok(work) => {
@@ -212,15 +227,16 @@ fn go_astray<R: Abort + Wait>(rt: &R, own: &FrontierLock, other: &FrontierLock) 
 
 #[test]
 fn a_stray_answer_comes_back(rt: HostRuntime) {
-    let own = locked(&rt, rt.alloc());
-    let other = locked(&rt, rt.alloc());
+    let waiting = Waiting::new();
+    let own = locked(&rt, rt.alloc(), &waiting);
+    let other = locked(&rt, rt.alloc(), &waiting);
     go_astray(&rt, &own, &other);
     drop(own);
     drop(other);
 }
 
 /// Stops twice while worker 0 holds the permit for the start, for another cause each time.
-fn stop_twice<R: Abort + Wait>(rt: &R, lock: &FrontierLock) {
+fn stop_twice<R: Abort + Wait>(rt: &R, lock: &Lock) {
     let permit = page_permit(rt, lock, 0);
     lock.halt(rt, None, Cause::Full);
     lock.halt(rt, Some(HeldPermit::Page(permit)), Cause::Memory);
@@ -233,7 +249,7 @@ fn is_given_up(frontier: &Frontier, at: &Address) -> bool {
 }
 
 /// Whether a lock is left with the address given up.
-fn is_left_given_up(lock: FrontierLock, at: &Address) -> bool {
+fn is_left_given_up(lock: Lock, at: &Address) -> bool {
     let frontier = lock.into_frontier();
     let is_given_up = is_given_up(&frontier, at);
     drop(frontier);
@@ -243,7 +259,8 @@ fn is_left_given_up(lock: FrontierLock, at: &Address) -> bool {
 #[test]
 fn the_first_cause_stops_all_workers(rt: HostRuntime) {
     let start = Address::read(rt.alloc(), "http://h/").expect(&rt, "an address");
-    let lock = locked(&rt, rt.alloc());
+    let waiting = Waiting::new();
+    let lock = locked(&rt, rt.alloc(), &waiting);
     stop_twice(&rt, &lock);
     assert!(rt; is_left_given_up(lock, &start));
 }
@@ -275,7 +292,7 @@ fn let_others_run() {
 }
 
 /// What worker 1 receives if it requests work while worker 0 holds a permit.
-fn wait_for_work<R: Abort + Wait>(rt: &R, lock: &FrontierLock, progress: &AtomicU64) -> Told {
+fn wait_for_work<R: Abort + Wait>(rt: &R, lock: &Lock, progress: &AtomicU64) -> Told {
     wait_until(progress, HELD);
     progress.fetch_add(1, Ordering::SeqCst);
     let work = lock.next_or_wait(rt, 1).expect(rt, "memory");
@@ -285,7 +302,7 @@ fn wait_for_work<R: Abort + Wait>(rt: &R, lock: &FrontierLock, progress: &Atomic
 /// Has worker 0 answer its page, or give it up, a while after so many others requested work.
 fn end_permit<R: Abort + Wait>(
     rt: &R,
-    lock: &FrontierLock,
+    lock: &Lock,
     progress: &AtomicU64,
     others: u64,
     answer: Option<Outcome>,
@@ -302,7 +319,8 @@ fn end_permit<R: Abort + Wait>(
 
 /// What a worker receives that waited for another's page to be answered, or to be given up.
 fn woken<R: Abort + Threads + Wait + Sync>(rt: &R, alloc: Global, answer: Option<Outcome>) -> Told {
-    let lock = locked(rt, alloc);
+    let waiting = Waiting::new();
+    let lock = locked(rt, alloc, &waiting);
     let progress = AtomicU64::new(0);
     let (told, ()) = thread::join(
         rt,
@@ -314,7 +332,8 @@ fn woken<R: Abort + Threads + Wait + Sync>(rt: &R, alloc: Global, answer: Option
 
 #[test]
 fn a_halt_wakes_all_that_sleep(rt: HostRuntime) {
-    let lock = locked(&rt, rt.alloc());
+    let waiting = Waiting::new();
+    let lock = locked(&rt, rt.alloc(), &waiting);
     let progress = AtomicU64::new(0);
     let ((one, other), ()) = thread::join(
         &rt,
@@ -344,7 +363,7 @@ fn a_worker_sleeps_until_another_is_done(rt: HostRuntime) {
 fn exchange_late<R: Abort + Wait>(
     rt: &R,
     alloc: Global,
-    lock: &FrontierLock,
+    lock: &Lock,
     progress: &AtomicU64,
     links: &[&str],
     is_due: bool,
@@ -376,7 +395,8 @@ fn told_by<R: Abort + Threads + Wait + Sync>(
     links: &[&str],
     is_due: bool,
 ) -> (Told, bool) {
-    let lock = locked(rt, alloc);
+    let waiting = Waiting::new();
+    let lock = locked(rt, alloc, &waiting);
     let progress = AtomicU64::new(0);
     thread::join(
         rt,

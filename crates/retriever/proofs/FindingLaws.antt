@@ -12,7 +12,7 @@ use Rattle.retriever.specs.Systems.{AreGiven, SystemRunResumed, SystemRunByOrder
 use Rattle.report.specs.Trace.{trace_text}
 use Rattle.retriever.proofs.LiveLaws.{finds_of_lives, found_end, untraced_end}
 
-module _ {S B F K D V : Type 0} (m : Means S B F K D V) (order : Order) (before after : Option (List ℕ)) (status : ℕ) where
+module _ {S B F K D V O : Type 0} (m : Means S B F K D V O) (order : Order) (before after : Option (List ℕ)) (status : ℕ) where
   found_plainly : SystemRun m order before after status → SystemFinds m order before after status
   found_plainly lives = record {
     fetchers = lives.fetchers;
@@ -90,7 +90,7 @@ not_begun words before after status (inr (seeks, inl large)) = inr (seeks, large
 not_begun words before after status (inr (seeks, inr memory)) = inl memory
 
 -- what the words of a live run result in is what it found
-pub finds_for : {S B F K D V : Type 0} (m : Means S B F K D V) (before after : Option (List ℕ)) (status : ℕ) (words : List (List ℕ)) → ProgramRun m before after status words
+pub finds_for : {S B F K D V O : Type 0} (m : Means S B F K D V O) (before after : Option (List ℕ)) (status : ℕ) (words : List (List ℕ)) → ProgramRun m before after status words
     → ProgramFinds m before after status words
 finds_for m before after status words (inl (order, ordered, inl lives)) =
     inl (order, ordered, inl (found_by m order before after status order.resume order.save refl refl lives))

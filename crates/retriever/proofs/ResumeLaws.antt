@@ -22,7 +22,7 @@ fault_not_read holds links bytes input.Memory held bad = tt
 fault_not_read holds links bytes (input.Line n) held bad = (bytes, held, bad)
 fault_not_read holds links bytes (input.Address n) held bad = (bytes, held, bad)
 
-module _ {S B F K D V : Type 0} (m : Means S B F K D V) (order : Order) where
+module _ {S B F K D V O : Type 0} (m : Means S B F K D V O) (order : Order) where
   -- what is read of the file that the order names is resumed
   pub read_resumed : (path given : List ℕ) (r : Result RecordValue ResumeFault) → order.resume ≡ Some path → given ≡ path
       → IfOk r (λ x. (bytes : List ℕ) × m.gives.holds m.system given bytes × IsRecordTaken (not order.retries_failed) (is_some order.save) order.links bytes x) → IfOk r (λ x. IsResumed m order x)

@@ -36,7 +36,7 @@ abbrev pub IsNotBegun : List (List ℕ) → Option (List ℕ) → Option (List �
 IsNotBegun words before after status =
     IsDelivered before after (codes "stopped memory\n") 1 status ⊎ ((seeks_in words ≡ true) × IsDelivered before after (codes "line pattern\n") 2 status)
 
-module _ {S B F K D V : Type 0} (m : Means S B F K D V) where
+module _ {S B F K D V O : Type 0} (m : Means S B F K D V O) where
   -- what is found by fetchers that the system makes for the order, into the folder that it opens for it
   pub record SystemFinds (order : Order) (before after : Option (List ℕ)) (status : ℕ) : Type 0 where
     pub fetchers : List F

@@ -57,6 +57,6 @@ IsQuietFor words before after =
     (after.errors ≡ before.errors) ⊎ ((seeks_in words ≡ true) × AppendsFront before.told after.told (said_of words (fault.Line line.LargeExpression)))
 
 -- the live retrieval that the words order, or the line for what hindered it before
-abbrev pub ProgramRun : {S B F K D V : Type 0} → Means S B F K D V → Option (List ℕ) → Option (List ℕ) → ℕ → List (List ℕ) → Type 0
+abbrev pub ProgramRun : {S B F K D V O : Type 0} → Means S B F K D V O → Option (List ℕ) → Option (List ℕ) → ℕ → List (List ℕ) → Type 0
 ProgramRun m before after status words =
     ((order : Order) × IsLiveOrder words order × OrderedRun m order before after status) ⊎ IsUndone words before after status

@@ -67,7 +67,7 @@ pub record IsLogOfCrew {F B : Type 0} (m : Meaning F B) (order : Order) (fetcher
   pub retrieved : IsRetrievedBy m order.plan fetchers harvest
   pub read : IsLogRead harvest text
 
-module _ {S B F K D V : Type 0} (m : Means S B F K D V) where
+module _ {S B F K D V O : Type 0} (m : Means S B F K D V O) where
   -- the log of what fetchers of the system found, one for each worker
   pub record IsLogPlainly (order : Order) (text : List ℕ) : Type 0 where
     pub fetchers : List F

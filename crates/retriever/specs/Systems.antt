@@ -30,8 +30,8 @@ use Rattle.pacing.specs.Retries.{retries_by}
 use Rattle.live_system.specs.declared.system.System.{Ghosts as Systems}
 
 -- a system, and what its fetchers, those that note, its folders and the writers of its records mean, and how bodies are kept
-pub record Means (S B F K D V : Type 0) : Type 1 where
-  pub gives : Systems S B F K D V
+pub record Means (S B F K D V O : Type 0) : Type 1 where
+  pub gives : Systems S B F K D V O
   pub system : S
   pub fetchers : Fetchers F B
   pub recorders : Fetchers K BodyValue
@@ -41,7 +41,7 @@ pub record Means (S B F K D V : Type 0) : Type 1 where
   pub records : Writers V
 
 -- what belongs to a system
-abbrev pub means : {S B F K D V : Type 0} → Systems S B F K D V → S → Fetchers F B → Fetchers K BodyValue → (K → List Noted) → Keeping B → Folders D → Writers V → Means S B F K D V
+abbrev pub means : {S B F K D V O : Type 0} → Systems S B F K D V O → S → Fetchers F B → Fetchers K BodyValue → (K → List Noted) → Keeping B → Folders D → Writers V → Means S B F K D V O
 means gives system fetchers recorders noted keeps folders records =
     record { gives = gives; system = system; fetchers = fetchers; recorders = recorders; noted = noted; keeps = keeps; folders = folders; records = records }
 
@@ -74,7 +74,7 @@ IsNotRead holds links Refused = ⊥
 IsNotRead holds links Discontinued = ⊥
 IsNotRead holds links (Input wrong) = (bytes : List ℕ) × holds bytes × IsFault links bytes wrong
 
-module _ {S B F K D V : Type 0} (m : Means S B F K D V) where
+module _ {S B F K D V O : Type 0} (m : Means S B F K D V O) where
   -- what is known of the contents of a folder of the system
   abbrev pub held : D → Holding
   held folder = holding m.folders.files m.folders.failed folder

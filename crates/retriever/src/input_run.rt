@@ -18,6 +18,7 @@ use crate::rejected::{hand_over, log_of};
 use crate::render::{RunOutput, render_retrieval};
 use html_links::LinkRules;
 use live_system::RejectedLog;
+use observer::NoObserver;
 use options::{Order, Source, read_order};
 use site_maps::MapSite;
 use site_records::RecordedSite;
@@ -70,7 +71,7 @@ fn retrieve<H: Threads + Wait + Sync, F: Copied>(
         &order.plan,
         &NoQuota,
         copies,
-        None,
+        &NoObserver,
     );
     // They are dropped before a report is made.
     drop(copies);

@@ -146,8 +146,8 @@ where
         (outside (holding D.files D.failed folder.new) (W.contents writer.new)) result }
     ensures logged { IsLogTaken (IsLogOfCrew F.Fetcher order.now fetchers.items) (L.contents log.old) (L.contents log.new) }
 {
-    let waiting = system.waiting();
-    let (status, retrieved) = live_shown(rt, alloc, order, fetchers, folder, writer, waiting);
+    let observer = system.observer();
+    let (status, retrieved) = live_shown(rt, alloc, order, fetchers, folder, writer, observer);
     tell_moves(alloc, system, &retrieved);
     tell_quota(system, &retrieved);
     hand_over(log_of(alloc, order, &retrieved), log);
@@ -183,18 +183,18 @@ fn live_plainly<H: Threads + Wait + Sync, S: System, W: Write, L: RejectedLog>(
 }
 
 // Fetchers for the order's workers that ask those of the system for what the record doesn't state.
-fn resumed_of<S: System>(
+fn resumed_of<'a, S: System>(
     alloc: Global,
-    system: &S,
+    system: &'a S,
     order: &Order,
     recorded: &RecordedSite,
     is_recording: bool,
-) -> Result<Vec<Resumed<S::Recorder>>, AllocError>
+) -> Result<Vec<Resumed<'a, S::Recorder, S::Observer>>, AllocError>
     ensures count { IfOk result (λ all. vec_len all ≡ order.now.workers) }
     ensures resumed { IfOk result (λ all. AreResuming (means S.System system.now S.Fetcher.Fetcher S.Recorder.Fetcher S.Recorder.noted (kept_as S.Body.kind_of S.Body.len_of S.Folder.holds) S.Folder.Folder S.Record.Write) order.now is_recording recorded.now all.items) }
 {
     let fetchers = recorders_of(alloc, system, order, is_recording)?;
-    resuming(alloc, recorded, fetchers)
+    resuming(alloc, recorded, fetchers, system.observer())
 }
 
 // The same by such fetchers.
@@ -245,7 +245,7 @@ fn live_saving<H: Threads + Wait + Sync, S: System, W: Write, L: RejectedLog>(
         &mut folder,
         writer,
         &mut saved,
-        system.waiting(),
+        system.observer(),
     );
     tell_moves(alloc, system, &retrieved);
     tell_quota(system, &retrieved);

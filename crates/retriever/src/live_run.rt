@@ -20,12 +20,12 @@ use crate::render::{halt_text, render_harvest};
 use fetcher::Fetcher;
 use frontier_core::Cause;
 use local_tree::{HasKind, Shelf, WriteFault, write_changed_site, write_site};
+use observer::{NoObserver, Observer};
 use options::{Order, PageNames};
 use report::exit_status;
 use std::alloc::{AllocError, Global};
 use std::io::Write;
 use std::sync::Wait;
-use std::sync::atomic::AtomicUsize;
 use std::thread::Threads;
 use streams::{WriteFailed, write_text};
 use workers::{Halt, Harvest};
@@ -303,16 +303,21 @@ fn status_told(told: Result<u8, WriteFailed>) -> u8
     }
 }
 
-/// Retrieves as [`live`] does, and gives what was retrieved beside the status. How many addresses wait is noted in `waiting`, if
-/// one is given, for a progress line.
-pub(crate) fn live_shown<H: Threads + Wait + Sync, F: Fetcher + Send, D: Shelf<F::Body>, W: Write>(
+/// Retrieves as [`live`] does, tells the observer how many addresses wait, and gives what was retrieved beside the status.
+pub(crate) fn live_shown<
+    H: Threads + Wait + Sync,
+    F: Fetcher + Send,
+    D: Shelf<F::Body>,
+    W: Write,
+    O: Observer + Sync,
+>(
     rt: &H,
     alloc: Global,
     order: &Order,
     fetchers: Vec<F>,
     folder: &mut D,
     writer: &mut W,
-    waiting: Option<&AtomicUsize>,
+    observer: &O,
 ) -> (u8, Result<Harvest<F::Body>, Halt<F::Body>>)
 where
     F::Body: HasKind + Send,
@@ -329,7 +334,7 @@ where
         &order.plan,
         &quota,
         fetchers,
-        waiting,
+        observer,
     );
     // They are dropped before a report is made.
     drop(left);
@@ -374,7 +379,7 @@ where
     ensures lives { LiveRun F.Fetcher (kept_as F.Body.kind_of F.Body.len_of D.holds) order.now fetchers.items (outside (holding D.files D.failed folder.old) (W.contents writer.old))
         (outside (holding D.files D.failed folder.new) (W.contents writer.new)) result }
 {
-    let (status, retrieved) = live_shown(rt, alloc, order, fetchers, folder, writer, None);
+    let (status, retrieved) = live_shown(rt, alloc, order, fetchers, folder, writer, &NoObserver);
     drop(retrieved);
     status
 }

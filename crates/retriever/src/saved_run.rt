@@ -13,28 +13,29 @@ use crate::quota::ByLength;
 use answer_notes::{Noted, Recording};
 use kept_bodies::Body;
 use local_tree::Folder;
+use observer::{NoObserver, Observer};
 use options::Order;
 use site_records::{RecordFault, RecordedSite, Resumed, write_record};
 use std::alloc::{AllocError, Global};
 use std::io::Write;
 use std::sync::Wait;
-use std::sync::atomic::AtomicUsize;
 use std::thread::Threads;
 use streams::WriteFailed;
 use workers::{Halt, Harvest};
 
-/// Fetchers that request from these what the record doesn't state.
-pub(crate) fn resuming<F: Recording>(
+/// Fetchers that request from these what the record doesn't state, and tell the observer of what it does.
+pub(crate) fn resuming<'a, F: Recording, O: Observer>(
     alloc: Global,
     recorded: &RecordedSite,
     fetchers: Vec<F>,
-) -> Result<Vec<Resumed<F>>, AllocError>
+    observer: &'a O,
+) -> Result<Vec<Resumed<'a, F, O>>, AllocError>
     ensures count { IfOk result (λ all. vec_len all ≡ vec_len fetchers) }
     ensures resuming { IfOk result (λ all. all.items ≡ map (resuming_of F.log recorded.now) fetchers.items) }
 {
     let mut all = Vec::new(alloc);
     for fetcher in fetchers {
-        all.push(Resumed::new(alloc, recorded.try_clone()?, fetcher))?;
+        all.push(Resumed::new(alloc, recorded.try_clone()?, fetcher, observer))?;
     }
     Ok(all)
 }
@@ -103,14 +104,15 @@ fn tell_saving_behind<W: Write>(
     }
 }
 
-/// Retrieves live, and saves what is given and what the fetchers note; gives what was retrieved beside the status. How many
-/// addresses wait is noted in `waiting`, if one is given, for a progress line.
+/// Retrieves live, and saves what is given and what the fetchers note; gives what was retrieved beside the status. The observer
+/// is told how many addresses wait.
 pub(crate) fn live_saved<
     H: Threads + Wait + Sync,
     F: Recording + Send,
     D: Folder,
     W: Write,
     V: Write,
+    O: Observer + Sync,
 >(
     rt: &H,
     alloc: Global,
@@ -120,7 +122,7 @@ pub(crate) fn live_saved<
     folder: &mut D,
     writer: &mut W,
     saved: &mut V,
-    waiting: Option<&AtomicUsize>,
+    observer: &O,
 ) -> (u8, Result<Harvest<Body>, Halt<Body>>)
     requires some { 0 < vec_len fetchers }
     requires most { vec_len fetchers ≤ 64 }
@@ -135,7 +137,7 @@ pub(crate) fn live_saved<
         &order.plan,
         &quota,
         fetchers,
-        waiting,
+        observer,
     );
     let saving = save(alloc, given, left.as_slice(), saved);
     // They are dropped before a report is made.
@@ -173,7 +175,7 @@ pub fn live_resumed<H: Threads + Wait + Sync, F: Recording + Send, D: Folder, W:
     ensures lives { ResumedRun (resumes F.Fetcher F.noted recorded.now) order.now fetchers.items (outside_saved (holding D.files D.failed folder.old) (W.contents writer.old) (V.contents saved.old))
         (outside_saved (holding D.files D.failed folder.new) (W.contents writer.new) (V.contents saved.new)) result }
 {
-    match resuming(alloc, recorded, fetchers) {
+    match resuming(alloc, recorded, fetchers, &NoObserver) {
         Ok(resuming) => {
             let (status, retrieved) = live_saved(
                 rt,
@@ -184,7 +186,7 @@ pub fn live_resumed<H: Threads + Wait + Sync, F: Recording + Send, D: Folder, W:
                 folder,
                 writer,
                 saved,
-                None,
+                &NoObserver,
             );
             drop(retrieved);
             status

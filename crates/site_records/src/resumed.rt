@@ -10,20 +10,22 @@ use crate::recorded_site::RecordedSite;
 use address::{Address, Origin};
 use answer_notes::{Noted, Recording};
 use fetcher::{Answer, Ask, Body, Fetcher};
+use observer::Observer;
 use robots_rules::RuleSet;
 use std::alloc::{AllocError, Global};
 use std::marker::Model;
 
-/// Answers from a record what this states, recorded faults too, and asks a fetcher for the rest.
+/// Answers from a record what this states, recorded faults too, and asks a fetcher for the rest. An observer is told of the first.
 #[derive(Drop)]
-pub struct Resumed<F: Fetcher<Body = Body>> {
+pub struct Resumed<'a, F: Fetcher<Body = Body>, O: Observer> {
     recorded: RecordedSite,
     inner: F,
     asks: Vec<Ask>,
     since: usize,
+    observer: &'a O,
 }
 
-impl<F: Fetcher<Body = Body>> Model for Resumed<F> {
+impl<'a, F: Fetcher<Body = Body>, O: Observer> Model for Resumed<'a, F, O> {
     ghost use Rattle.site_records.specs.Resumption.{Resuming, IsSpared};
 
     ghost Value = { Resuming F };
@@ -33,10 +35,15 @@ impl<F: Fetcher<Body = Body>> Model for Resumed<F> {
     ghost invariant = { λ r. IsSpared r.recorded.answers r.recorded.rules r.since (F.log r.inner) };
 }
 
-impl<F: Fetcher<Body = Body>> Resumed<F> {
+impl<'a, F: Fetcher<Body = Body>, O: Observer> Resumed<'a, F, O> {
     /// Answers from the record, and asks the fetcher for what this doesn't state. Takes no memory; later growth comes from
     /// `alloc`.
-    pub fn new(alloc: Global, recorded: RecordedSite, inner: F) -> Resumed<F>
+    pub fn new(
+        alloc: Global,
+        recorded: RecordedSite,
+        inner: F,
+        observer: &'a O,
+    ) -> Resumed<'a, F, O>
         ensures recorded { result.recorded ≡ recorded }
         ensures inner { result.inner ≡ inner }
         ensures asks { result.asks ≡ [] }
@@ -54,6 +61,7 @@ impl<F: Fetcher<Body = Body>> Resumed<F> {
             inner,
             asks: Vec::new(alloc),
             since,
+            observer,
         }
     }
 
@@ -73,7 +81,7 @@ impl<F: Fetcher<Body = Body>> Resumed<F> {
     }
 }
 
-impl<F: Fetcher<Body = Body>> Fetcher for Resumed<F> {
+impl<'a, F: Fetcher<Body = Body>, O: Observer> Fetcher for Resumed<'a, F, O> {
     ghost use Rattle.site_records.specs.Resumption.{Resumption, resumption_of, SaysOr, RulesOr};
 
     type Body = Body;
@@ -99,7 +107,7 @@ impl<F: Fetcher<Body = Body>> Fetcher for Resumed<F> {
         self.asks.push(Ask::Page(at.try_clone()?))?;
         match self.recorded.stated_answer(at)? {
             Some(answer) => {
-                self.inner.tell_recorded();
+                self.observer.recorded();
                 Ok(answer)
             }
             None => self.inner.ask(at),
@@ -117,7 +125,7 @@ impl<F: Fetcher<Body = Body>> Fetcher for Resumed<F> {
         self.asks.push(Ask::Rules(of.try_clone()?))?;
         match self.recorded.stated_rules(of)? {
             Some(rules) => {
-                self.inner.tell_recorded();
+                self.observer.recorded();
                 Ok(rules)
             }
             None => self.inner.ask_robots(of),
@@ -130,7 +138,7 @@ impl<F: Fetcher<Body = Body>> Fetcher for Resumed<F> {
 }
 
 // The fetcher's notes: what the record states isn't noted again.
-impl<F: Recording> Recording for Resumed<F> {
+impl<'a, F: Recording, O: Observer> Recording for Resumed<'a, F, O> {
     ghost noted = { λ r. F.noted r.inner };
 
     fn notes(&self) -> &[Noted] {

@@ -1,5 +1,5 @@
 //! What asks over TCP for one worker, and again if that is worth it.
-ghost use Rattle.std.specs.Prelude.{◌≡◌, ◌<◌, ◌++◌, ◌∷◌, [], IfOk, OnErr, OnOk};
+ghost use Rattle.std.specs.Prelude.{◌≡◌, ◌<◌, ◌++◌, ◌∷◌, [], IfOk, None, OnErr, OnOk};
 ghost use Rattle.fetcher.specs.Logs.{GainedAtMost};
 ghost use Rattle.fetcher.specs.declared.fetcher.Ask.TheVariants as ask;
 ghost use Rattle.answer_notes.specs.HopChains.{ChainValue, rules_of_hops};
@@ -13,7 +13,7 @@ ghost use Rattle.retries.specs.Tries.{IsLastOf};
 ghost use Rattle.retries.specs.Worth.{is_worth, is_worth_hops};
 ghost use Rattle.tcp_fetcher.specs.TcpFetching.{conditioned, last_loss};
 
-use crate::watched_tcp::WatchedTcp;
+use crate::observed_tcp::ObservedTcp;
 use address::{Address, Origin};
 use answer_notes::{Hops, Telling, Told};
 use fetcher::{Answer, Ask, Body, Fetcher};
@@ -33,13 +33,13 @@ use std::marker::Model;
 use std::net::Net;
 use std::sync::Wait;
 use std::time::Clock;
-use tcp_connect::{Hosts, KeptConnections};
+use tcp_connect::{Hosts, KeptConnections, TcpConnect};
 
 /// Asks over TCP, again after answers and faults that are worth it, and shows on the terminal what results.
 pub struct OverTcp<'a, R: Net + Wait + Clock + Eprint> {
     alloc: Global,
     // Asks once.
-    inner: HttpFetcher<WatchedTcp<'a, R>>,
+    inner: HttpFetcher<ObservedTcp<'a, R>>,
     retries: Retries,
     // How long an answer may be whose body goes to a keeper.
     limits: Limits,
@@ -77,6 +77,27 @@ impl<'a, R: Net + Wait + Clock + Eprint> Model for OverTcp<'a, R> {
     ghost view = { λ f. record { links = f.inner.links; keeps = f.inner.keeps; most = f.inner.connect.most; sends = f.inner.sends; retries = retries_by f.retries; limits = limited f.limits; takes_times = f.takes_times; asks = f.asks.items; single = f.inner; known = None } };
 }
 
+// What makes the connections. They are kept if it is said how many to a server may be open at a time.
+fn connect_by<'a, R: Net + Wait + Clock>(
+    rt: &'a R,
+    alloc: Global,
+    hosts: &'a Hosts,
+    kept: &'a KeptConnections<R::Stream>,
+    most: Option<u32>,
+    proxies: Proxies,
+    manner: Manner,
+) -> TcpConnect<'a, R>
+    ensures { result ≡ record { made = 0; failed = 0; refused = 0; taken = 0; most = most; lost = None } }
+{
+    let connect = TcpConnect::new(rt, alloc, hosts)
+        .through(proxies)
+        .treating(manner);
+    match most {
+        Some(most) => connect.keeping(kept, most),
+        None => connect,
+    }
+}
+
 impl<'a, R: Net + Wait + Clock + Eprint> OverTcp<'a, R> {
     ghost use Rattle.std.specs.Prelude.{◌≡◌, Some, is_some, []};
     ghost use Rattle.pacing.specs.Retries.{retries_by};
@@ -112,7 +133,8 @@ impl<'a, R: Net + Wait + Clock + Eprint> OverTcp<'a, R> {
     {
         let limits = Limits::of_body(manner.body_limit);
         let crawl_delay = manner.crawl_delay;
-        let connect = WatchedTcp::new(rt, alloc, hosts, kept, progress, most, proxies, manner);
+        let connect = connect_by(rt, alloc, hosts, kept, most, proxies, manner);
+        let connect = ObservedTcp::new(connect, progress);
         let fetcher = HttpFetcher::new(alloc, connect, links).sending(sends);
         OverTcp {
             alloc,

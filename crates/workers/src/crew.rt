@@ -7,15 +7,21 @@ use crate::worker::{Seat, work_at};
 use fetcher::Fetcher;
 use follow_filters::Plan;
 use frontier_lock::FrontierLock;
+use observer::Observer;
 use std::alloc::Global;
 use std::sync::Wait;
 use std::thread::{Threads, for_each_mut};
 
 // Has a worker at each of these seats work, each in a thread of its own if one can be made.
-fn work_all_at<F: Fetcher + Send, Q: Quota<F::Body> + Sync, R: Threads + Wait + Sync>(
+fn work_all_at<
+    F: Fetcher + Send,
+    Q: Quota<F::Body> + Sync,
+    O: Observer + Sync,
+    R: Threads + Wait + Sync,
+>(
     rt: &R,
     alloc: Global,
-    lock: &FrontierLock,
+    lock: &FrontierLock<'_, O>,
     plan: &Plan,
     meter: &Meter<'_, Q>,
     seats: &mut [Seat<F, F::Body>],
@@ -32,10 +38,15 @@ where
 }
 
 /// Has a worker at each seat work until all are done.
-pub fn run_crew<F: Fetcher + Send, Q: Quota<F::Body> + Sync, R: Threads + Wait + Sync>(
+pub fn run_crew<
+    F: Fetcher + Send,
+    Q: Quota<F::Body> + Sync,
+    O: Observer + Sync,
+    R: Threads + Wait + Sync,
+>(
     rt: &R,
     alloc: Global,
-    lock: &FrontierLock,
+    lock: &FrontierLock<'_, O>,
     plan: &Plan,
     quota: &Q,
     mut seats: Vec<Seat<F, F::Body>>,

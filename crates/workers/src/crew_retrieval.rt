@@ -26,9 +26,9 @@ use follow_filters::Plan;
 use frontier_core::{Cause, Frontier};
 use frontier_lock::FrontierLock;
 use harvest::Harvest;
+use observer::{NoObserver, Observer};
 use std::alloc::{AllocError, Global};
 use std::sync::Wait;
-use std::sync::atomic::AtomicUsize;
 use std::thread::Threads;
 
 /// A retrieval that found what is to be found.
@@ -52,12 +52,12 @@ pub struct Stopped<F, B> {
 }
 
 // The retrieval with one fetcher: it needs no other thread, and no lock.
-fn ask_alone<F: Fetcher, Q: Quota<F::Body>>(
+fn ask_alone<F: Fetcher, Q: Quota<F::Body>, O: Observer>(
     alloc: Global,
     plan: &Plan,
     quota: &Q,
     fetchers: &mut [F],
-    waiting: Option<&AtomicUsize>,
+    observer: &O,
 ) -> Result<Harvest<F::Body>, Halt<F::Body>>
     requires { length fetchers.old ≡ 1 }
     ensures ok { IfOk result (λ h. IsRetrievedBy F.Fetcher plan.now fetchers.old fetchers.new h) }
@@ -68,18 +68,18 @@ fn ask_alone<F: Fetcher, Q: Quota<F::Body>>(
     ensures own { IfOk result (λ h. AreOwn F.Fetcher 0 fetchers.old fetchers.new h.trace) × IfErr result (λ halt. halt.cause ≢ Cause.Mismatch → AreOwn F.Fetcher 0 fetchers.old fetchers.new halt.harvest.trace) }
 {
     if let [fetcher] = fetchers {
-        return retrieve_noting(alloc, plan, quota, fetcher, waiting);
+        return retrieve_noting(alloc, plan, quota, fetcher, observer);
     }
     unreachable!()
 }
 
 // The same, with the fetcher that is handed back.
-fn retrieve_alone<F: Fetcher, Q: Quota<F::Body>>(
+fn retrieve_alone<F: Fetcher, Q: Quota<F::Body>, O: Observer>(
     alloc: Global,
     plan: &Plan,
     quota: &Q,
     mut fetchers: Vec<F>,
-    waiting: Option<&AtomicUsize>,
+    observer: &O,
 ) -> (Result<Harvest<F::Body>, Halt<F::Body>>, Vec<F>)
     requires { vec_len fetchers ≡ 1 }
     ensures ok { IfOk result.0 (λ h. IsRetrievedBy F.Fetcher plan.now fetchers.items result.1.items h) }
@@ -90,7 +90,7 @@ fn retrieve_alone<F: Fetcher, Q: Quota<F::Body>>(
     ensures own { IfOk result.0 (λ h. AreOwn F.Fetcher 0 fetchers.items result.1.items h.trace)
         × IfErr result.0 (λ halt. halt.cause ≢ Cause.Mismatch → AreOwn F.Fetcher 0 fetchers.items result.1.items halt.harvest.trace) }
 {
-    let retrieved = ask_alone(alloc, plan, quota, &mut fetchers, waiting);
+    let retrieved = ask_alone(alloc, plan, quota, &mut fetchers, observer);
     (retrieved, fetchers)
 }
 
@@ -139,10 +139,15 @@ enum Noted<B> {
 }
 
 // Seats the fetchers, has them work, and takes the seats apart.
-fn work_all<F: Fetcher + Send, Q: Quota<F::Body> + Sync, R: Threads + Wait + Sync>(
+fn work_all<
+    F: Fetcher + Send,
+    Q: Quota<F::Body> + Sync,
+    O: Observer + Sync,
+    R: Threads + Wait + Sync,
+>(
     rt: &R,
     alloc: Global,
-    lock: &FrontierLock,
+    lock: &FrontierLock<'_, O>,
     plan: &Plan,
     quota: &Q,
     fetchers: Vec<F>,
@@ -186,13 +191,18 @@ where
 }
 
 // The retrieval with several fetchers.
-fn retrieve_together<F: Fetcher + Send, Q: Quota<F::Body> + Sync, R: Threads + Wait + Sync>(
+fn retrieve_together<
+    F: Fetcher + Send,
+    Q: Quota<F::Body> + Sync,
+    O: Observer + Sync,
+    R: Threads + Wait + Sync,
+>(
     rt: &R,
     alloc: Global,
     plan: &Plan,
     quota: &Q,
     fetchers: Vec<F>,
-    waiting: Option<&AtomicUsize>,
+    observer: &O,
 ) -> (Result<Harvest<F::Body>, Halt<F::Body>>, Vec<F>)
 where
     F::Body: Send,
@@ -213,7 +223,7 @@ where
         seats,
         fetchers: back,
     } = room;
-    let lock = FrontierLock::watched(frontier, waiting);
+    let lock = FrontierLock::new(frontier, observer);
     let Worked { fetchers, noted } = work_all(rt, alloc, &lock, plan, quota, fetchers, seats, back);
     let frontier = lock.into_frontier();
     match noted {
@@ -233,13 +243,18 @@ where
 }
 
 // The retrieval with one fetcher or with several.
-fn retrieve_with<F: Fetcher + Send, Q: Quota<F::Body> + Sync, R: Threads + Wait + Sync>(
+fn retrieve_with<
+    F: Fetcher + Send,
+    Q: Quota<F::Body> + Sync,
+    O: Observer + Sync,
+    R: Threads + Wait + Sync,
+>(
     rt: &R,
     alloc: Global,
     plan: &Plan,
     quota: &Q,
     fetchers: Vec<F>,
-    waiting: Option<&AtomicUsize>,
+    observer: &O,
 ) -> (Result<Harvest<F::Body>, Halt<F::Body>>, Vec<F>)
 where
     F::Body: Send,
@@ -253,20 +268,25 @@ where
         × IfErr result.0 (λ halt. halt.cause ≢ Cause.Mismatch → AreOwn F.Fetcher 0 fetchers.items result.1.items halt.harvest.trace) }
 {
     if fetchers.len() == 1 {
-        return retrieve_alone(alloc, plan, quota, fetchers, waiting);
+        return retrieve_alone(alloc, plan, quota, fetchers, observer);
     }
-    retrieve_together(rt, alloc, plan, quota, fetchers, waiting)
+    retrieve_together(rt, alloc, plan, quota, fetchers, observer)
 }
 
 /// Retrieves as [`retrieve`] does, and gives the result beside the fetchers, which come back in their order whatever it
-/// is. How many addresses wait is noted there, if a place is given for an observer.
-pub fn retrieve_shown<F: Fetcher + Send, Q: Quota<F::Body> + Sync, R: Threads + Wait + Sync>(
+/// is. The observer is told how many addresses wait.
+pub fn retrieve_shown<
+    F: Fetcher + Send,
+    Q: Quota<F::Body> + Sync,
+    O: Observer + Sync,
+    R: Threads + Wait + Sync,
+>(
     rt: &R,
     alloc: Global,
     plan: &Plan,
     quota: &Q,
     fetchers: Vec<F>,
-    waiting: Option<&AtomicUsize>,
+    observer: &O,
 ) -> (Result<Harvest<F::Body>, Halt<F::Body>>, Vec<F>)
 where
     F::Body: Send,
@@ -294,7 +314,7 @@ where
     ensures full_site { (whole : Answers) → AllFit F.Fetcher fetchers.items whole → IfErr result.0 (λ halt. halt.cause ≡ Cause.Full → HasTooMany (policy plan.now) whole) }
     ensures crowded_site { (whole : Answers) → AllFit F.Fetcher fetchers.items whole → HasTooMany (policy plan.now) whole → IsErr result.0 }
 {
-    retrieve_with(rt, alloc, plan, quota, fetchers, waiting)
+    retrieve_with(rt, alloc, plan, quota, fetchers, observer)
 }
 
 // What a retrieval resulted in, with its fetchers.
@@ -357,6 +377,6 @@ where
     ensures full_site { (whole : Answers) → AllFit F.Fetcher fetchers.items whole → IfErr result (λ s. s.cause ≡ Cause.Full → HasTooMany (policy plan.now) whole) }
     ensures crowded_site { (whole : Answers) → AllFit F.Fetcher fetchers.items whole → HasTooMany (policy plan.now) whole → IsErr result }
 {
-    let (retrieved, fetchers) = retrieve_shown(rt, alloc, plan, &NoQuota, fetchers, None);
+    let (retrieved, fetchers) = retrieve_shown(rt, alloc, plan, &NoQuota, fetchers, &NoObserver);
     with_fetchers(retrieved, fetchers)
 }

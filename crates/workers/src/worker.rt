@@ -12,6 +12,7 @@ use follow_filters::Plan;
 use frontier_core::{AnswerFault, Cause, OriginPermit, Permit, SpreadFault, Work};
 use frontier_lock::{Done, FrontierLock, HeldPermit, Refused, Unanswered};
 use harvest::is_success;
+use observer::Observer;
 use robots_rules::RuleSet;
 use std::alloc::{AllocError, Global};
 use std::sync::Wait;
@@ -74,13 +75,18 @@ fn held_of(done: Done) -> HeldPermit {
 }
 
 // Stops the frontier, and the worker with it.
-fn halt<R: Wait>(rt: &R, lock: &FrontierLock<'_>, held: Option<HeldPermit>, cause: Cause) -> Work {
+fn halt<O: Observer, R: Wait>(
+    rt: &R,
+    lock: &FrontierLock<'_, O>,
+    held: Option<HeldPermit>,
+    cause: Cause,
+) -> Work {
     lock.halt(rt, held, cause);
     Work::Stopped(cause)
 }
 
 // What the worker is to do next, when others have done what it has to wait for.
-fn next<R: Wait>(rt: &R, lock: &FrontierLock<'_>, worker: u32) -> Work {
+fn next<O: Observer, R: Wait>(rt: &R, lock: &FrontierLock<'_, O>, worker: u32) -> Work {
     match lock.next_or_wait(rt, worker) {
         Ok(work) => work,
         Err(_) => halt(rt, lock, None, Cause::Memory),
@@ -88,7 +94,7 @@ fn next<R: Wait>(rt: &R, lock: &FrontierLock<'_>, worker: u32) -> Work {
 }
 
 // Gives up the permit of an answer that wasn't taken, and stops the frontier.
-fn refuse<R: Wait>(rt: &R, lock: &FrontierLock<'_>, refused: Refused) -> Cause {
+fn refuse<O: Observer, R: Wait>(rt: &R, lock: &FrontierLock<'_, O>, refused: Refused) -> Cause {
     let Refused { done, fault } = refused;
     let cause = cause_of(fault);
     lock.halt(rt, Some(held_of(done)), cause);
@@ -96,7 +102,7 @@ fn refuse<R: Wait>(rt: &R, lock: &FrontierLock<'_>, refused: Refused) -> Cause {
 }
 
 // Hands an answer over. If it isn't taken the frontier stops.
-fn give<R: Wait>(rt: &R, lock: &FrontierLock<'_>, done: Done) -> bool {
+fn give<O: Observer, R: Wait>(rt: &R, lock: &FrontierLock<'_, O>, done: Done) -> bool {
     match lock.give(rt, done) {
         Ok(()) => true,
         Err(refused) => {
@@ -120,9 +126,9 @@ fn untold_page<B>(worker: u32, address: Address) -> PageNote<B>
 
 // Counts the body of a page, if it is kept. If it passes the quota the frontier stops, before what was received is recorded:
 // so no permit is given once what is recorded passes it.
-fn count<B, Q: Quota<B>, R: Wait>(
+fn count<B, Q: Quota<B>, O: Observer, R: Wait>(
     rt: &R,
-    lock: &FrontierLock<'_>,
+    lock: &FrontierLock<'_, O>,
     meter: &Meter<'_, Q>,
     body: &Option<B>,
 ) {
@@ -134,9 +140,9 @@ fn count<B, Q: Quota<B>, R: Wait>(
 }
 
 // Hands the answer of a page over, and gives the note of it with what the worker is to do next.
-fn hand_over<B: Drop, Q: Quota<B>, R: Wait>(
+fn hand_over<B: Drop, Q: Quota<B>, O: Observer, R: Wait>(
     rt: &R,
-    lock: &FrontierLock<'_>,
+    lock: &FrontierLock<'_, O>,
     plan: &Plan,
     meter: &Meter<'_, Q>,
     worker: u32,
@@ -170,9 +176,9 @@ fn hand_over<B: Drop, Q: Quota<B>, R: Wait>(
 
 // Requests the page of a permit with the lock free, hands the outcome over, and notes what was requested. Gives what the worker
 // is to do next.
-fn fetch_page<F: Fetcher, Q: Quota<F::Body>, R: Wait>(
+fn fetch_page<F: Fetcher, Q: Quota<F::Body>, O: Observer, R: Wait>(
     rt: &R,
-    lock: &FrontierLock<'_>,
+    lock: &FrontierLock<'_, O>,
     plan: &Plan,
     meter: &Meter<'_, Q>,
     worker: u32,
@@ -211,10 +217,10 @@ fn untold_rules(worker: u32, origin: Origin) -> RulesNote
 }
 
 // Hands an origin's rules over, and gives the note of them.
-fn hand_rules_over<R: Wait>(
+fn hand_rules_over<O: Observer, R: Wait>(
     rt: &R,
     alloc: Global,
-    lock: &FrontierLock<'_>,
+    lock: &FrontierLock<'_, O>,
     worker: u32,
     origin: Origin,
     permit: OriginPermit,
@@ -240,10 +246,10 @@ fn hand_rules_over<R: Wait>(
 
 // Requests the robots rules of a permit's origin with the lock free, hands them over, and notes what was requested. Whatever
 // the plan is.
-fn fetch_robots<F: Fetcher, R: Wait>(
+fn fetch_robots<F: Fetcher, O: Observer, R: Wait>(
     rt: &R,
     alloc: Global,
-    lock: &FrontierLock<'_>,
+    lock: &FrontierLock<'_, O>,
     worker: u32,
     fetcher: &mut F,
     notes: &mut Notes<F::Body>,
@@ -269,7 +275,7 @@ fn fetch_robots<F: Fetcher, R: Wait>(
 }
 
 // Offers the edges of one due address. If they are refused the frontier stops.
-fn spread<R: Wait>(rt: &R, lock: &FrontierLock<'_>) {
+fn spread<O: Observer, R: Wait>(rt: &R, lock: &FrontierLock<'_, O>) {
     match lock.spread(rt) {
         Ok(()) => {}
         Err(SpreadFault::Full) => lock.halt(rt, None, Cause::Full),
@@ -278,10 +284,10 @@ fn spread<R: Wait>(rt: &R, lock: &FrontierLock<'_>) {
 }
 
 // Takes work and does it, until none is left or the frontier stopped.
-fn work<F: Fetcher, Q: Quota<F::Body>, R: Wait>(
+fn work<F: Fetcher, Q: Quota<F::Body>, O: Observer, R: Wait>(
     rt: &R,
     alloc: Global,
-    lock: &FrontierLock<'_>,
+    lock: &FrontierLock<'_, O>,
     plan: &Plan,
     meter: &Meter<'_, Q>,
     worker: u32,
@@ -311,10 +317,10 @@ fn work<F: Fetcher, Q: Quota<F::Body>, R: Wait>(
 }
 
 /// Has the worker of a seat work, under the seat's number.
-pub fn work_at<F: Fetcher, Q: Quota<F::Body>, R: Wait>(
+pub fn work_at<F: Fetcher, Q: Quota<F::Body>, O: Observer, R: Wait>(
     rt: &R,
     alloc: Global,
-    lock: &FrontierLock<'_>,
+    lock: &FrontierLock<'_, O>,
     plan: &Plan,
     meter: &Meter<'_, Q>,
     seat: &mut Seat<F, F::Body>,

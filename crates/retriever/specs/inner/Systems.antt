@@ -10,7 +10,7 @@ use Rattle.retriever.specs.Systems.{Means, settings_of}
 abbrev pub is_plain : Option (List ℕ) → Option (List ℕ) → Bool
 is_plain resume save = is_none resume && is_none save
 
-module _ {S B F K D V : Type 0} (m : Means S B F K D V) (order : Order) where
+module _ {S B F K D V O : Type 0} (m : Means S B F K D V O) (order : Order) where
   -- these fetchers ask such ones as the system makes for the order, with notes or without, for what is recorded
   pub record AreResuming (is_recording : Bool) (recorded : RecordValue) (all : List (Resuming K)) : Type 0 where
     pub fetchers : List K

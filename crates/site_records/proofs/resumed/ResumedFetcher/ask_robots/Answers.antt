@@ -1,9 +1,9 @@
 -- What is asked is logged first; a site that answers from the record, or from the fetcher, is the same as before.
-use Rattle.std.proofs.Common.{◌∙◌, sym, ap, subst, inl, inr, take}
+use Rattle.std.proofs.Common.{◌∙◌, sym, ap, subst, inl, inr}
 use Rattle.std.proofs.lemmas.Result.{IfOk-from_err, IfOk-weaker}
 use Rattle.fetcher.specs.Logs.{GainedAtMost}
 use Rattle.fetcher.specs.declared.fetcher.Ask.TheVariants.{Rules}
-use Rattle.site_records.specs.Resumption.{IsSpared, Resuming, RulesOr, resumption_of}
+use Rattle.site_records.specs.Resumption.{Resuming, RulesOr, resumption_of}
 use Rattle.site_records.proofs.ResumptionLaws.{gained, spared_more, on_err, on_ok, before_stays, logged, same_site, rules_stated, rules_inner}
 use Rattle.site_records.proofs.resumed.ResumedFetcher.ask_robots.Goals as goal
 
@@ -44,20 +44,18 @@ returns-in_err-rules g c = record {
 }
 
 pub invariant_of-self-in-Some : goal.invariant_of-self-in-Some
-invariant_of-self-in-Some g c = subst (IsSpared c.self.inside.recorded.answers c.self.inside.recorded.rules c.self.inside.since) (sym c.tell_recorded.ensures.log) c.self.invariant
+invariant_of-self-in-Some g c = c.self.invariant
 
 pub returns-in-Some : goal.returns-in-Some
 returns-in-Some g c = record {
-  site = same_site g.F.Fetcher.site g.F.Fetcher.log (record { recorded = c.self.inside.recorded; inner = c.self.inside.inner; asks = c.self.inside.asks.items; since = c.self.inside.since })
-      c.tell_recorded.new.self c.push.new.self.items c.tell_recorded.ensures.site (ap (take c.self.inside.since) c.tell_recorded.ensures.log)
-      ∙ ap (resumption_of g.F.Fetcher.site g.F.Fetcher.log) c.self.view_is;
+  site = ap (resumption_of g.F.Fetcher.site g.F.Fetcher.log) c.self.view_is;
   told =
       let site = resumption_of g.F.Fetcher.site g.F.Fetcher.log (record { recorded = c.self.inside.recorded; inner = c.self.inside.inner; asks = c.self.inside.asks.items; since = c.self.inside.since }) in
       subst (λ (r : Resuming _). RulesOr g.F.Fetcher.rules (resumption_of g.F.Fetcher.site g.F.Fetcher.log r) c.args.of.now c.in-Some.rules) c.self.view_is
       (rules_stated g.F.Fetcher.rules site c.args.of.now _ (sym c.in_ok-rules.ensures ∙ c.in-Some.is));
   asked = logged c.self.view_is c.in_ok-push.ensures.items (ap Rules c.in_ok-try_clone.ensures);
   refused = tt;
-  once = inl (c.tell_recorded.ensures.log ∙ ap (λ (r : Resuming _). g.F.Fetcher.log r.inner) c.self.view_is);
+  once = inl (ap (λ (r : Resuming _). g.F.Fetcher.log r.inner) c.self.view_is);
 }
 
 pub invariant_of-self-in-None : goal.invariant_of-self-in-None
