@@ -19,6 +19,7 @@ mod crew;
 mod crew_retrieval;
 mod crew_trace;
 mod followed;
+mod kept_body;
 mod note;
 mod once;
 mod quota;

@@ -4,6 +4,7 @@ ghost use Rattle.follow_filters.specs.declared.plan.Plan.{Plan};
 ghost use Rattle.workers.specs.inner.Notes.{Goes, body_of};
 ghost use Rattle.workers.specs.inner.Seats.{SeatGoes};
 
+use crate::kept_body::keep_body;
 use crate::note::{Notes, PageNote, RulesNote};
 use crate::quota::{Meter, Quota};
 use address::{Address, Origin};
@@ -11,7 +12,6 @@ use fetcher::{Answer, Fetcher, Outcome};
 use follow_filters::Plan;
 use frontier_core::{AnswerFault, Cause, OriginPermit, Permit, SpreadFault, Work};
 use frontier_lock::{Done, FrontierLock, HeldPermit, Refused, Unanswered};
-use harvest::is_success;
 use observer::Observer;
 use robots_rules::RuleSet;
 use std::alloc::{AllocError, Global};
@@ -45,17 +45,6 @@ fn make_rules_room<B>(notes: &mut Notes<B>, origin: &Origin) -> Result<Origin, A
 {
     notes.rules.reserve(1)?;
     origin.try_clone()
-}
-
-// The body, if the page is kept.
-fn keep_body<B: Drop>(plan: &Plan, address: &Address, outcome: &Outcome, body: B) -> Option<B>
-    ensures { result ≡ body_of plan.now address.now outcome.now body }
-{
-    if plan.keeps(address) && is_success(outcome) {
-        Some(body)
-    } else {
-        None
-    }
 }
 
 // Why an answer that wasn't taken stops the retrieval.
