@@ -84,13 +84,6 @@ pub trait Fetcher: Drop {
     /// What was asked, in order.
     fn asks(&self) -> &[Ask]
         ensures { result.now ≡ log self.now };
-
-    /// Called when an answer came from a record in place of the site, for a progress display. Nothing that is requested or
-    /// answered depends on it.
-    fn tell_recorded(&mut self)
-        ensures site { site self.new ≡ site self.old }
-        ensures log { log self.new ≡ log self.old }
-    {}
 }
 
 /// Fetches of a steady site: each address has exactly one outcome, which is no fault, and each
