@@ -129,13 +129,10 @@ pub trait System {
     fn folder(&self, path: &str, originals: Originals) -> Result<Self::Folder, AllocError>
         ensures { IfOk result (opens self.now path.now originals) };
 
-    /// Holds the place at which a run saves, before anything is read or requested, so that no other saves there; `_resumed` is the
+    /// Holds the place at which a run saves, before anything is read or requested, so that no other saves there; `resumed` is the
     /// file that the run goes on from, if there is one. Why a path is refused is reported to a person.
-    fn hold(&self, _path: &str, _resumed: Option<&str>) -> Result<(), HoldFault>
-        ensures { result ≡ Err HoldFault.Refused → refuses self.now _path.now }
-    {
-        Ok(())
-    }
+    fn hold(&self, path: &str, resumed: Option<&str>) -> Result<(), HoldFault>
+        ensures { result ≡ Err HoldFault.Refused → refuses self.now path.now };
 
     /// All bytes of the file at a path, at most so many. It is closed when they are read.
     fn read_file(&self, alloc: Global, path: &str, limit: usize) -> Result<Vec<u8>, ReadInputFault>
