@@ -8,7 +8,7 @@ use Rattle.std.proofs.lemmas.List.{length-map}
 use Rattle.work_queues.specs.Queues.{numbers_of, queued_of, seat_of, seats, IsPlaced}
 use Rattle.work_queues.specs.declared.queues.Member.{Member}
 use Rattle.work_queues.specs.declared.queues.Queue.{Queue}
-use Rattle.work_queues.specs.declared.queues.Place.{Place}
+use Rattle.work_queues.specs.declared.queues.Position.{Position}
 use Rattle.work_queues.specs.declared.queues.Queues.{Queues}
 use Rattle.work_queues.proofs.QueueLaws.{equal, unequal, compare_numbers, numbers_at, numbers-set_same, numbers-set_other, queued-set_even}
 
@@ -106,7 +106,7 @@ added_found old new queue here there member placed is other place number stands 
               ∙ rw (h, at_end) refl)
         ]
 
-added_held : (old new : Queues) (queue : ℕ) (here there : Queue) (member : Member) → IsPlaced old → IsAdded old new queue here there member → (number : ℕ) (place : Place)
+added_held : (old new : Queues) (queue : ℕ) (here there : Queue) (member : Member) → IsPlaced old → IsAdded old new queue here there member → (number : ℕ) (place : Position)
     → slice_get new.places.items number ≡ Some place → slice_get (numbers_of new.queues.items place.queue) place.place ≡ Some number
 added_held old new queue here there member placed is number place stands =
     elim (get-append_cases old.places.items (record { queue = queue; place = length here.members.items }) number place (ap (λ z. slice_get z number) (sym is.places) ∙ stands)) [
@@ -160,7 +160,7 @@ added_seats old new queue here there member placed is =
     ∙ ap (λ z. z ++ seat_of new.queues.items (record { queue = queue; place = length here.members.items }) ∷ []) (map-each (seat_of new.queues.items) (seat_of old.queues.items) even old.places.items)
     ∙ ap (λ z. seats old ++ record { queue = queue; is_queued = z } ∷ []) outside
   where
-    even : (place : Place) → seat_of new.queues.items place ≡ seat_of old.queues.items place
+    even : (place : Position) → seat_of new.queues.items place ≡ seat_of old.queues.items place
     even place = ap (λ z. record { queue = place.queue; is_queued = nat_lt place.place z }) (added_queued old new queue here there member is place.queue)
 
     outside : nat_lt (length here.members.items) (queued_of new.queues.items queue) ≡ false

@@ -8,7 +8,7 @@ use Rattle.work_queues.specs.inner.Queues.{IsRearranged}
 use Rattle.std.proofs.lemmas.List.{length-set, map-set}
 use Rattle.work_queues.specs.declared.queues.Member.{Member}
 use Rattle.work_queues.specs.declared.queues.Queue.{Queue}
-use Rattle.work_queues.specs.declared.queues.Place.{Place}
+use Rattle.work_queues.specs.declared.queues.Position.{Position}
 use Rattle.work_queues.specs.declared.queues.Queues.{Queues}
 use Rattle.work_queues.proofs.QueueLaws.{Compared, equal, unequal, compare_numbers, same_list, get-set_same, get-set_other, queue_within, numbers_at, read, member_within, number_read, numbers-set_same, numbers-set_other, queued-set_even}
 
@@ -26,7 +26,7 @@ pub record IsExchanged (old new : Queues) (queue a b first second : ℕ) : Type 
   pub second_at : slice_get new.places.items second ≡ Some (record { queue = queue; place = a })
   pub places : (number : ℕ) → number ≢ first → number ≢ second → slice_get new.places.items number ≡ slice_get old.places.items number
 
-abbrev at : ℕ → ℕ → Place
+abbrev at : ℕ → ℕ → Position
 at queue place = record { queue = queue; place = place }
 
 -- ---- where the numbers are
@@ -38,7 +38,7 @@ none_of old queue a number here place placed was other there differ is =
     let one : slice_get old.places.items number ≡ Some (at queue a) = placed.found queue a number was in
     let two : slice_get old.places.items other ≡ Some (at here place) = placed.found here place other there in
     let same_place : at here place ≡ at queue a = cc in
-    differ (ap (λ (z : Place). z.queue) same_place) (ap (λ (z : Place). z.place) same_place)
+    differ (ap (λ (z : Position). z.queue) same_place) (ap (λ (z : Position). z.place) same_place)
 
 pub found : (old new : Queues) (queue a b first second : ℕ) → IsPlaced old → IsExchanged old new queue a b first second → (here place number : ℕ)
     → slice_get (numbers_of new.queues.items here) place ≡ Some number → slice_get new.places.items number ≡ Some (record { queue = here; place = place })
@@ -75,7 +75,7 @@ found old new queue a b first second placed is here place number there = elim (c
           ]
         ]
 
-pub held : (old new : Queues) (queue a b first second : ℕ) → IsPlaced old → IsExchanged old new queue a b first second → (number : ℕ) (place : Place)
+pub held : (old new : Queues) (queue a b first second : ℕ) → IsPlaced old → IsExchanged old new queue a b first second → (number : ℕ) (place : Position)
     → slice_get new.places.items number ≡ Some place → slice_get (numbers_of new.queues.items place.queue) place.place ≡ Some number
 held old new queue a b first second placed is number place there =
     elim (compare_numbers number first) [
@@ -111,16 +111,16 @@ pub seats_same : (old new : Queues) (queue a b first second : ℕ) → IsPlaced 
     → nat_lt a (queued_of old.queues.items queue) ≡ nat_lt b (queued_of old.queues.items queue) → seats new ≡ seats old
 seats_same old new queue a b first second placed is side = same_list (seats new) (seats old) each
   where
-    now : Place → Seat
+    now : Position → Seat
     now = seat_of new.queues.items
 
-    was : Place → Seat
+    was : Position → Seat
     was = seat_of old.queues.items
 
-    even : (place : Place) → seat_of new.queues.items place ≡ seat_of old.queues.items place
+    even : (place : Position) → seat_of new.queues.items place ≡ seat_of old.queues.items place
     even place = ap (λ z. record { queue = place.queue; is_queued = nat_lt place.place z }) (is.queued place.queue)
 
-    seat_at : (number : ℕ) (p q : Place) → slice_get new.places.items number ≡ Some p → slice_get old.places.items number ≡ Some q → seat_of new.queues.items p ≡ seat_of old.queues.items q
+    seat_at : (number : ℕ) (p q : Position) → slice_get new.places.items number ≡ Some p → slice_get old.places.items number ≡ Some q → seat_of new.queues.items p ≡ seat_of old.queues.items q
         → slice_get (seats new) number ≡ slice_get (seats old) number
     seat_at number p q new_at old_at e =
         slice_get-map (seat_of new.queues.items) new.places.items number
@@ -135,7 +135,7 @@ seats_same old new queue a b first second placed is side = same_list (seats new)
         ∙ maps (slice_get old.places.items number)
         ∙ sym (slice_get-map (seat_of old.queues.items) old.places.items number)
       where
-        maps : (o : Option Place) → option_map (seat_of new.queues.items) o ≡ option_map (seat_of old.queues.items) o
+        maps : (o : Option Position) → option_map (seat_of new.queues.items) o ≡ option_map (seat_of old.queues.items) o
         maps None = refl
         maps (Some p) = ap (λ z. Some z) (even p)
 

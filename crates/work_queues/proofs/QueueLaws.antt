@@ -8,7 +8,7 @@ use Rattle.std.proofs.lemmas.List.{length-map}
 use Rattle.work_queues.specs.Queues.{Seat, numbers_of, queued_of, seat_of, seats, IsPlaced}
 use Rattle.work_queues.specs.declared.queues.Member.{Member}
 use Rattle.work_queues.specs.declared.queues.Queue.{Queue}
-use Rattle.work_queues.specs.declared.queues.Place.{Place}
+use Rattle.work_queues.specs.declared.queues.Position.{Position}
 use Rattle.work_queues.specs.declared.queues.Queues.{Queues}
 
 -- ---- lists
@@ -146,10 +146,10 @@ seat_queued queues queue place number placed lt stands =
 
 -- the seat of a number has its place
 pub seat_place : (queues : Queues) (number : ℕ) (seat : Seat) → slice_get (seats queues) number ≡ Some seat
-    → (place : Place) × (slice_get queues.places.items number ≡ Some place) × (seat ≡ seat_of queues.queues.items place)
+    → (place : Position) × (slice_get queues.places.items number ≡ Some place) × (seat ≡ seat_of queues.queues.items place)
 seat_place queues number seat at = go (slice_get queues.places.items number) refl
   where
-    go : (o : Option Place) → slice_get queues.places.items number ≡ o → (place : Place) × (slice_get queues.places.items number ≡ Some place) × (seat ≡ seat_of queues.queues.items place)
+    go : (o : Option Position) → slice_get queues.places.items number ≡ o → (place : Position) × (slice_get queues.places.items number ≡ Some place) × (seat ≡ seat_of queues.queues.items place)
     go None e =
         let none : None ≡ Some seat = sym (slice_get-map (seat_of queues.queues.items) queues.places.items number ∙ ap (λ z. option_map (seat_of queues.queues.items) z) e) ∙ at in
         cc
@@ -173,13 +173,13 @@ none_queued queues queue number placed none at =
 
 -- ---- one number
 
-pub stands : (queues : Queues) (number : ℕ) (place : Place) → IsPlaced queues → slice_get queues.places.items number ≡ Some place → slice_get (numbers_of queues.queues.items place.queue) place.place ≡ Some number
+pub stands : (queues : Queues) (number : ℕ) (place : Position) → IsPlaced queues → slice_get queues.places.items number ≡ Some place → slice_get (numbers_of queues.queues.items place.queue) place.place ≡ Some number
 stands queues number place placed at = placed.held number place at
 
-pub inside : (queues : Queues) (number : ℕ) (place : Place) → IsPlaced queues → slice_get queues.places.items number ≡ Some place → place.place < length (numbers_of queues.queues.items place.queue)
+pub inside : (queues : Queues) (number : ℕ) (place : Position) → IsPlaced queues → slice_get queues.places.items number ≡ Some place → place.place < length (numbers_of queues.queues.items place.queue)
 inside queues number place placed at = slice_get_within (numbers_of queues.queues.items place.queue) place.place number (placed.held number place at)
 
-pub seat_is : (queues : Queues) (number : ℕ) (seat : Seat) (place : Place) → slice_get (seats queues) number ≡ Some seat → slice_get queues.places.items number ≡ Some place → seat ≡ seat_of queues.queues.items place
+pub seat_is : (queues : Queues) (number : ℕ) (seat : Seat) (place : Position) → slice_get (seats queues) number ≡ Some seat → slice_get queues.places.items number ≡ Some place → seat ≡ seat_of queues.queues.items place
 seat_is queues number seat place at there =
     let some : Some (seat_of queues.queues.items place) ≡ Some seat =
     sym (slice_get-map (seat_of queues.queues.items) queues.places.items number ∙ ap (λ z. option_map (seat_of queues.queues.items) z) there) ∙ at in

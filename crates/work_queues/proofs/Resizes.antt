@@ -8,7 +8,7 @@ use Rattle.std.proofs.lemmas.Option.{slice_get-map, slice_get_within}
 use Rattle.work_queues.specs.Queues.{numbers_of, queued_of, seat_of, seats, IsPlaced}
 use Rattle.work_queues.specs.inner.Queues.{IsRearranged}
 use Rattle.work_queues.specs.declared.queues.Queue.{Queue}
-use Rattle.work_queues.specs.declared.queues.Place.{Place}
+use Rattle.work_queues.specs.declared.queues.Position.{Position}
 use Rattle.work_queues.specs.declared.queues.Queues.{Queues}
 use Rattle.work_queues.proofs.QueueLaws.{equal, unequal, compare_numbers, same_list, get-set_same, get-set_other, numbers-set_even, queued-set_even, queued-set_same, queued-set_other, queued_at}
 
@@ -47,7 +47,7 @@ alike old new placed numbers queued places = (
   ap (λ z. map (seat_of new.queues.items) z) places ∙ same_list (map (seat_of new.queues.items) old.places.items) (map (seat_of old.queues.items) old.places.items) each,
 )
   where
-    maps : (o : Option Place) → option_map (seat_of new.queues.items) o ≡ option_map (seat_of old.queues.items) o
+    maps : (o : Option Position) → option_map (seat_of new.queues.items) o ≡ option_map (seat_of old.queues.items) o
     maps None = refl
     maps (Some p) = ap (λ z. Some (record { queue = p.queue; is_queued = nat_lt p.place z })) (queued p.queue)
 
@@ -115,18 +115,18 @@ resized old new queue boundary here there placed at queues numbers few moved pla
           | unequal h ↦ rw (same_numbers other, queued_there other h) (placed.within other)
         ]
 
-    seat_new : (number : ℕ) (place : Place) → slice_get old.places.items number ≡ Some place → slice_get (seats new) number ≡ Some (seat_of new.queues.items place)
+    seat_new : (number : ℕ) (place : Position) → slice_get old.places.items number ≡ Some place → slice_get (seats new) number ≡ Some (seat_of new.queues.items place)
     seat_new number place there_at =
         slice_get-map (seat_of new.queues.items) new.places.items number
         ∙ ap (λ z. option_map (seat_of new.queues.items) z) (ap (λ z. slice_get z number) places ∙ there_at)
 
-    seat_old : (number : ℕ) (place : Place) → slice_get old.places.items number ≡ Some place → slice_get (seats old) number ≡ Some (seat_of old.queues.items place)
+    seat_old : (number : ℕ) (place : Position) → slice_get old.places.items number ≡ Some place → slice_get (seats old) number ≡ Some (seat_of old.queues.items place)
     seat_old number place there_at = slice_get-map (seat_of old.queues.items) old.places.items number ∙ ap (λ z. option_map (seat_of old.queues.items) z) there_at
 
     queued_was : queued_of old.queues.items queue ≡ here.queued
     queued_was = queued_at old.queues.items queue here at
 
-    even : (number other : ℕ) (place : Place) → slice_get (numbers_of old.queues.items queue) boundary ≡ Some number → other ≢ number → slice_get old.places.items other ≡ Some place
+    even : (number other : ℕ) (place : Position) → slice_get (numbers_of old.queues.items queue) boundary ≡ Some number → other ≢ number → slice_get old.places.items other ≡ Some place
         → seat_of new.queues.items place ≡ seat_of old.queues.items place
     even number other place stands differ there_at =
         elim (compare_numbers place.queue queue) [
@@ -145,7 +145,7 @@ resized old new queue boundary here there placed at queues numbers few moved pla
     unmoved : (number other : ℕ) → slice_get (numbers_of old.queues.items queue) boundary ≡ Some number → other ≢ number → slice_get (seats new) other ≡ slice_get (seats old) other
     unmoved number other stands differ = go (slice_get old.places.items other) refl
       where
-        go : (o : Option Place) → slice_get old.places.items other ≡ o → slice_get (seats new) other ≡ slice_get (seats old) other
+        go : (o : Option Position) → slice_get old.places.items other ≡ o → slice_get (seats new) other ≡ slice_get (seats old) other
         go None e =
             slice_get-map (seat_of new.queues.items) new.places.items other
             ∙ ap (λ z. option_map (seat_of new.queues.items) z) (ap (λ z. slice_get z other) places ∙ e)

@@ -1,7 +1,7 @@
 -- Queues of numbers: each number belongs to one queue, and is in it or not.
 use Rattle.std.specs.Prelude.{◌≡◌, ◌≤◌, ℕ, zero, suc, nat_lt, Bool, List, [], ◌∷◌, map, length, slice_get, Some}
 use Rattle.work_queues.specs.declared.queues.Queue.{Queue}
-use Rattle.work_queues.specs.declared.queues.Place.{Place}
+use Rattle.work_queues.specs.declared.queues.Position.{Position}
 use Rattle.work_queues.specs.declared.queues.Queues.{Queues}
 
 -- the numbers that belong to a queue, by their places in it
@@ -22,7 +22,7 @@ pub record Seat : Type 0 where
   pub is_queued : Bool
 
 -- the seat of the number at this place
-abbrev pub seat_of : List Queue → Place → Seat
+abbrev pub seat_of : List Queue → Position → Seat
 seat_of queues place = record { queue = place.queue; is_queued = nat_lt place.place (queued_of queues place.queue) }
 
 -- the seats of all numbers
@@ -33,6 +33,6 @@ seats queues = map (seat_of queues.queues.items) queues.places.items
 pub record IsPlaced (queues : Queues) : Type 0 where
   pub found : (queue place number : ℕ) → slice_get (numbers_of queues.queues.items queue) place ≡ Some number
       → slice_get queues.places.items number ≡ Some (record { queue = queue; place = place })
-  pub held : (number : ℕ) (place : Place) → slice_get queues.places.items number ≡ Some place
+  pub held : (number : ℕ) (place : Position) → slice_get queues.places.items number ≡ Some place
       → slice_get (numbers_of queues.queues.items place.queue) place.place ≡ Some number
   pub within : (queue : ℕ) → queued_of queues.queues.items queue ≤ length (numbers_of queues.queues.items queue)

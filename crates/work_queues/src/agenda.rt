@@ -44,7 +44,7 @@ impl Agenda {
         let waiting = Pool::new(alloc)?;
         let parked = Pool::new(alloc)?;
         let lists = Lists {
-            hosts: IndexMap::new(alloc),
+            origins: IndexMap::new(alloc),
             jobs: Vec::new(alloc),
             waiting,
             parked,
@@ -72,9 +72,9 @@ impl Agenda {
         ensures err { OnErr result (self.new.items ≡ self.old.items) }
     {
         let number = self.lists.jobs.len();
-        let host = self.lists.origin_index(alloc, origin)?;
-        self.lists.reserve(host)?;
-        self.lists.append(host);
+        let place = self.lists.origin_index(alloc, origin)?;
+        self.lists.reserve(place)?;
+        self.lists.append(place);
         self.set(number, task, label);
         Ok(())
     }
@@ -84,13 +84,19 @@ impl Agenda {
         requires { number < length self.old.items }
         ensures { (item : Item) → slice_get self.old.items number ≡ Some item → self.new.items ≡ slice_set self.old.items number (record item { task = task }) }
     {
-        let Job { host, task: was } = self.lists.jobs[number];
-        self.lists.jobs[number] = Job { host, task };
-        self.lists.hosts[host] = recount(self.lists.hosts[host], was.is_out(), task.is_out());
+        let Job { origin, task: was } = self.lists.jobs[number];
+        self.lists.jobs[number] = Job { origin, task };
+        self.lists.origins[origin] = recount(
+            self.lists.origins[origin],
+            was.is_out(),
+            task.is_out(),
+        );
         self.lists
             .waiting
-            .put(number, host, task.is_waiting(), label);
-        self.lists.parked.put(number, host, task.is_parked(), label);
+            .put(number, origin, task.is_waiting(), label);
+        self.lists
+            .parked
+            .put(number, origin, task.is_parked(), label);
         self.lists.due.put(number, task.is_due(), label);
     }
 
@@ -107,7 +113,7 @@ impl Agenda {
         requires { number < length self.now.items }
         ensures { (item : Item) × (slice_get self.now.items number ≡ Some item) × (result ≡ out_count self.now.items item.origin) }
     {
-        self.lists.hosts[self.lists.jobs[number].host]
+        self.lists.origins[self.lists.jobs[number].origin]
     }
 
     /// The origin of this number.
@@ -115,7 +121,7 @@ impl Agenda {
         requires { number < length self.now.items }
         ensures { (item : Item) × (slice_get self.now.items number ≡ Some item) × (result.now ≡ item.origin) }
     {
-        match self.lists.hosts.get_index(self.lists.jobs[number].host) {
+        match self.lists.origins.get_index(self.lists.jobs[number].origin) {
             Some((origin, _)) => origin,
             None => unreachable!(),
         }
@@ -126,8 +132,8 @@ impl Agenda {
         ensures some { IfSome result (λ number. (item : Item) × (slice_get self.now.items number ≡ Some item) × (is_parked item.task ≡ true) × (item.origin ≡ origin.now)) }
         ensures none { IfNone result ((number : ℕ) (item : Item) → slice_get self.now.items number ≡ Some item → is_parked item.task ≡ true → item.origin ≡ origin.now → ⊥) }
     {
-        match self.lists.hosts.get_index_of(origin) {
-            Some(host) => self.lists.parked.numbers.first(host),
+        match self.lists.origins.get_index_of(origin) {
+            Some(place) => self.lists.parked.numbers.first(place),
             None => None,
         }
     }

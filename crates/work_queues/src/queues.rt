@@ -2,7 +2,7 @@
 //! labels that of the earliest turn, and of equal turns the least number.
 ghost use Rattle.std.specs.Prelude.{◌≡◌, ◌≢◌, ◌<◌, ◌≤◌, ◌+◌, ◌-◌, ℕ, true, false, [], ◌∷◌, ◌++◌, Some, length, slice_get, slice_set, nat_lt, vec_len, OnOk, OnErr, IfSome, IfNone};
 ghost use Rattle.work_queues.specs.Queues.{Seat, numbers_of, queued_of, seats, IsPlaced};
-ghost use Rattle.work_queues.specs.inner.Queues.{IsRearranged, HostHasRoom};
+ghost use Rattle.work_queues.specs.inner.Queues.{IsRearranged, QueueHasRoom};
 
 use std::alloc::{AllocError, Global};
 
@@ -23,7 +23,7 @@ pub(crate) struct Queue {
 
 /// Where a number is: its queue, and its place among that queue's members.
 #[derive(Clone, Copy)]
-struct Place {
+struct Position {
     queue: usize,
     place: usize,
 }
@@ -32,7 +32,7 @@ struct Place {
 #[derive(Drop)]
 pub(crate) struct Queues {
     queues: Vec<Queue>,
-    places: Vec<Place>,
+    places: Vec<Position>,
 }
 
 impl Queues {
@@ -91,7 +91,7 @@ impl Queues {
         requires placed { IsPlaced self.now }
         requires number { number < vec_len self.now.places }
     {
-        let Place { queue, place } = self.places[number];
+        let Position { queue, place } = self.places[number];
         self.member(queue, place).turn
     }
 
@@ -130,7 +130,7 @@ impl Queues {
         requires placed { IsPlaced self.old }
         requires queue { queue < vec_len self.old.queues }
         ensures same { IsRearranged self.old self.new }
-        ensures room { OnOk result (HostHasRoom self.new queue) }
+        ensures room { OnOk result (QueueHasRoom self.new queue) }
     {
         self.queues[queue].members.reserve(1)?;
         self.places.reserve(1)?;
@@ -140,7 +140,7 @@ impl Queues {
     /// One number more, which belongs to this queue and isn't in it. Takes no memory.
     pub(crate) fn add(&mut self, queue: usize)
         requires placed { IsPlaced self.old }
-        requires room { HostHasRoom self.old queue }
+        requires room { QueueHasRoom self.old queue }
         ensures placed { IsPlaced self.new }
         ensures seats { seats self.new ≡ seats self.old ++ record { queue = queue; is_queued = false } ∷ [] }
         ensures queues { vec_len self.new.queues ≡ vec_len self.old.queues }
@@ -153,7 +153,7 @@ impl Queues {
             label: 0,
             turn: 0,
         });
-        self.places.push_reserved(Place { queue, place });
+        self.places.push_reserved(Position { queue, place });
     }
 }
 
@@ -168,7 +168,7 @@ impl Queues {
         ensures elsewhere { (seat : Seat) → slice_get (seats self.old) number ≡ Some seat → (other : ℕ) → other ≢ seat.queue → queued_of self.new.queues.items other ≡ queued_of self.old.queues.items other }
         ensures queues { vec_len self.new.queues ≡ vec_len self.old.queues }
     {
-        let Place { queue, place } = self.places[number];
+        let Position { queue, place } = self.places[number];
         let queued = self.queued(queue);
         if place < queued {
             self.relabel(queue, place, label, turn);
@@ -190,7 +190,7 @@ impl Queues {
         ensures elsewhere { (seat : Seat) → slice_get (seats self.old) number ≡ Some seat → (other : ℕ) → other ≢ seat.queue → queued_of self.new.queues.items other ≡ queued_of self.old.queues.items other }
         ensures queues { vec_len self.new.queues ≡ vec_len self.old.queues }
     {
-        let Place { queue, place } = self.places[number];
+        let Position { queue, place } = self.places[number];
         let queued = self.queued(queue);
         if place < queued {
             self.exchange(queue, place, queued - 1);
@@ -297,8 +297,8 @@ impl Queues {
         let second = members[b];
         members[a] = second;
         members[b] = first;
-        self.places[first.number] = Place { queue, place: b };
-        self.places[second.number] = Place { queue, place: a };
+        self.places[first.number] = Position { queue, place: b };
+        self.places[second.number] = Position { queue, place: a };
     }
 
     /// The member at this place goes where its label belongs.

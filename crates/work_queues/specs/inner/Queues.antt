@@ -13,7 +13,7 @@ pub record IsRearranged (old new : Queues) : Type 0 where
   pub places : vec_len new.places ≡ vec_len old.places
 
 -- a number more of this queue takes no memory
-pub record HostHasRoom (queues : Queues) (queue : ℕ) : Type 0 where
+pub record QueueHasRoom (queues : Queues) (queue : ℕ) : Type 0 where
   pub places : vec_len queues.places < vec_capacity queues.places
   pub members : IfSome (slice_get queues.queues.items queue) (λ here. vec_len here.members < vec_capacity here.members)
   pub within : queue < vec_len queues.queues

@@ -18,7 +18,7 @@ unfolding due_seat
 returns-clause-some c = rw (← c.self.view_is)
     (IfSome_then c.first.result c.first.ensures.some
     (λ number at. (let job = unmapped due_seat c.self.inside.lists.jobs.items number (record { queue = 0; is_queued = true }) (ap (λ z. slice_get z number) (sym c.self.invariant.due) ∙ at) in
-    (item_of c.self.inside.lists.hosts.entries job.0, item_at c.self.inside.lists number job.0 job.1, sym (ap (λ (z : Seat). z.is_queued) job.2)))))
+    (item_of c.self.inside.lists.origins.entries job.0, item_at c.self.inside.lists number job.0 job.1, sym (ap (λ (z : Seat). z.is_queued) job.2)))))
 
 pub returns-clause-none : goal.returns-clause-none
 unfolding due_seat

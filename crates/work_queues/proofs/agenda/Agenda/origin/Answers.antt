@@ -12,9 +12,9 @@ pub returns : goal.returns
 returns c = rw (← c.self.view_is)
     (let lt : c.args.number < length c.self.inside.lists.jobs.items = simp length-map at (rw (← c.self.view_is) at c.requires) in
     let at = read c.self.inside.lists.jobs.items c.args.number c.index.result.now lt c.index.ensures in
-    let key : slice_get (texts c.self.inside.lists.hosts.entries) c.index.result.now.host ≡ Some c.in-Some.origin.now =
-    mapped (λ (e : OriginText × ℕ). e.0) c.self.inside.lists.hosts.entries c.index.result.now.host (c.in-Some.origin.now, c.in-Some.field-0-1.now) (sym c.in-Some.ensures.entry) in (
-      item_of c.self.inside.lists.hosts.entries c.index.result.now,
+    let key : slice_get (texts c.self.inside.lists.origins.entries) c.index.result.now.origin ≡ Some c.in-Some.origin.now =
+    mapped (λ (e : OriginText × ℕ). e.0) c.self.inside.lists.origins.entries c.index.result.now.origin (c.in-Some.origin.now, c.in-Some.field-0-1.now) (sym c.in-Some.ensures.entry) in (
+      item_of c.self.inside.lists.origins.entries c.index.result.now,
       item_at c.self.inside.lists c.args.number c.index.result.now at,
-      sym (get_or_from_slice_get (texts c.self.inside.lists.hosts.entries) c.index.result.now.host c.in-Some.origin.now [] key),
+      sym (get_or_from_slice_get (texts c.self.inside.lists.origins.entries) c.index.result.now.origin c.in-Some.origin.now [] key),
     ))

@@ -3,7 +3,7 @@ use Rattle.std.specs.Prelude.{Contains}
 use Rattle.work_queues.specs.Tasks.{Item, is_waiting}
 use Rattle.work_queues.specs.Lists.{waiting_of}
 use Rattle.work_queues.specs.declared.lists.Job.{Job}
-use Rattle.work_queues.proofs.ListLaws.{job_of, host_in}
+use Rattle.work_queues.proofs.ListLaws.{job_of, origin_in}
 use Rattle.work_queues.proofs.agenda.Agenda.waiting_len.Goals as goal
 
 pub returns-clause-all : goal.returns-clause-all
@@ -12,4 +12,4 @@ returns-clause-all c = rw (← c.self.view_is)
     (let job = job_of c.self.inside.lists number item at in
     let is_in : is_waiting job.0.task ≡ true = ap (λ (z : Item). is_waiting z.task) (sym job.2) ∙ yes in
     subst (λ (z : Item). Contains (waiting_of c.self.inside.lists) z.origin) (sym job.2)
-    (host_in c.self.inside.lists.waiting (λ (j : Job). is_waiting j.task) c.self.inside.lists.jobs.items c.self.inside.lists.hosts.entries number job.0 c.self.invariant.waiting (c.self.invariant.within number job.0 job.1) job.1 is_in)))
+    (origin_in c.self.inside.lists.waiting (λ (j : Job). is_waiting j.task) c.self.inside.lists.jobs.items c.self.inside.lists.origins.entries number job.0 c.self.invariant.waiting (c.self.invariant.within number job.0 job.1) job.1 is_in)))
