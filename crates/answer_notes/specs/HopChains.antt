@@ -3,12 +3,12 @@ use Rattle.std.specs.Prelude.{◌≡◌, ⊤, ℕ, zero, suc, List, [], ◌∷�
 use Rattle.address.specs.Address.{AddressText, OriginText}
 use Rattle.robots_rules.specs.Access.{RuleSetValue}
 use Rattle.answer_notes.specs.RobotsAnswers.{none_allowed, max_redirects}
-use Rattle.answer_notes.specs.Tellings.{target_told, rules_told}
-use Rattle.answer_notes.specs.declared.told.Told.{Told}
+use Rattle.answer_notes.specs.Received.{received_target, received_rules}
+use Rattle.answer_notes.specs.declared.received.Received.{Received}
 
 -- an address that was asked, and what was received
 abbrev pub HopValue : Type 0
-HopValue = AddressText × Told
+HopValue = AddressText × Received
 
 -- a hop ends the chain if so many more redirects may be followed: it redirects nowhere, or none may be
 abbrev pub EndsChain : ℕ → Option AddressText → Type 0
@@ -19,14 +19,14 @@ EndsChain (suc left) target = target ≡ None
 -- redirect before it, and the last ends the chain.
 abbrev pub AreHops : ℕ → AddressText → List HopValue → Type 0
 AreHops left at [] = ⊥
-AreHops left at (hop ∷ []) = (hop.0 ≡ at) × EndsChain left (target_told at hop.1)
+AreHops left at (hop ∷ []) = (hop.0 ≡ at) × EndsChain left (received_target at hop.1)
 AreHops zero at (hop ∷ next ∷ more) = ⊥
-AreHops (suc left) at (hop ∷ next ∷ more) = (hop.0 ≡ at) × (target_told at hop.1 ≡ Some next.0) × AreHops left next.0 (next ∷ more)
+AreHops (suc left) at (hop ∷ next ∷ more) = (hop.0 ≡ at) × (received_target at hop.1 ≡ Some next.0) × AreHops left next.0 (next ∷ more)
 
 -- the rules at the end of the hops
 abbrev pub rules_of_hops : List HopValue → RuleSetValue
 rules_of_hops [] = none_allowed
-rules_of_hops (hop ∷ []) = rules_told hop.1
+rules_of_hops (hop ∷ []) = received_rules hop.1
 rules_of_hops (hop ∷ next ∷ more) = rules_of_hops (next ∷ more)
 
 -- an origin with its hops

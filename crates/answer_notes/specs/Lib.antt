@@ -1,4 +1,4 @@
 pub mod RobotsAnswers
-pub mod Tellings
+pub mod Received
 pub mod HopChains
 pub mod CrawlDelays

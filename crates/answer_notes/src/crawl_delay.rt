@@ -1,10 +1,10 @@
 //! How long a robots file has its crawlers wait between two requests.
 ghost use Rattle.std.specs.Prelude.{◌≡◌, IfOk};
 ghost use Rattle.std.specs.Duration.{as_nanos};
-ghost use Rattle.answer_notes.specs.CrawlDelays.{delay_by_status, delay_of_hops, delay_told};
+ghost use Rattle.answer_notes.specs.CrawlDelays.{delay_by_status, delay_of_hops, received_delay};
 
 use crate::hops::Hops;
-use crate::told::Told;
+use crate::received::Received;
 use fetcher::is_successful;
 use robots_rules::crawl_delay;
 use std::alloc::{AllocError, Global};
@@ -22,15 +22,15 @@ fn delay_by_status(alloc: Global, status: u16, file: &[u8]) -> Result<Duration, 
 }
 
 // What the answer at the end of the hops says.
-fn delay_told(alloc: Global, told: &Told) -> Result<Duration, AllocError>
-    ensures { IfOk result (λ delay. as_nanos delay ≡ delay_told told.now) }
+fn received_delay(alloc: Global, received: &Received) -> Result<Duration, AllocError>
+    ensures { IfOk result (λ delay. as_nanos delay ≡ received_delay received.now) }
 {
-    match told {
-        Told::Whole(given) => {
+    match received {
+        Received::Whole(given) => {
             let response = given.response();
             delay_by_status(alloc, response.status, response.body.as_slice())
         }
-        Told::Fault(_) => Ok(Duration::ZERO),
+        Received::Fault(_) => Ok(Duration::ZERO),
     }
 }
 
@@ -45,7 +45,7 @@ impl Hops {
         ensures { IfOk result (λ delay. as_nanos delay ≡ delay_of_hops self.now.hops) }
     {
         match self.hops() {
-            [.., (_, told)] => delay_told(alloc, told),
+            [.., (_, received)] => received_delay(alloc, received),
             [] => Ok(Duration::ZERO),
         }
     }

@@ -2,7 +2,7 @@
 ghost use Rattle.std.specs.Prelude.{◌≡◌, IfOk};
 ghost use Rattle.answer_notes.specs.HopChains.{IsAdmitted, rules_of_hops};
 
-use crate::told::Told;
+use crate::received::Received;
 use address::{Address, Origin};
 use robots_rules::RuleSet;
 use std::alloc::{AllocError, Global};
@@ -12,7 +12,7 @@ use std::marker::Model;
 #[derive(Drop)]
 pub struct Hops {
     of: Origin,
-    hops: Vec<(Address, Told)>,
+    hops: Vec<(Address, Received)>,
 }
 
 impl Model for Hops {
@@ -27,7 +27,7 @@ impl Model for Hops {
 
 impl Hops {
     /// The hops of an origin, each the target of the redirect before it. Takes no memory.
-    pub fn new(of: Origin, hops: Vec<(Address, Told)>) -> Hops
+    pub fn new(of: Origin, hops: Vec<(Address, Received)>) -> Hops
         requires { IsAdmitted of hops.items }
         ensures of { result.of ≡ of }
         ensures hops { result.hops ≡ hops.items }
@@ -43,7 +43,7 @@ impl Hops {
     }
 
     /// The hops in order.
-    pub fn hops(&self) -> &[(Address, Told)]
+    pub fn hops(&self) -> &[(Address, Received)]
         ensures value { result.now ≡ self.now.hops }
         ensures admitted { IsAdmitted self.now.of self.now.hops }
     {
@@ -55,7 +55,7 @@ impl Hops {
         ensures { IfOk result (λ rules. rules ≡ rules_of_hops self.now.hops) }
     {
         match self.hops.as_slice() {
-            [.., (_, told)] => told.rules(alloc),
+            [.., (_, received)] => received.rules(alloc),
             [] => Ok(RuleSet::none()),
         }
     }

@@ -32,20 +32,20 @@ pub may_follow : (x : Outcome) (body : List ℕ) (n : ℕ) (hop : Hop) (next : A
 may_follow x body n hop next is says = let leads : SaysHop x body n (Next next) = says_of x body n hop (Next next) is says in leads.0
 
 -- an answer that decides ends a chain
-pub chain_ends : (Told : AddressText → Outcome → BodyValue → Type 0) (n : ℕ) (at : AddressText) (rules : RuleSetValue) (x : Outcome) (body : BodyValue)
-    → Told at x body → SaysHop x body.bytes n (Last rules) → IsChain Told n at rules
+pub chain_ends : (Says : AddressText → Outcome → BodyValue → Type 0) (n : ℕ) (at : AddressText) (rules : RuleSetValue) (x : Outcome) (body : BodyValue)
+    → Says at x body → SaysHop x body.bytes n (Last rules) → IsChain Says n at rules
 unfolding IsChain
-chain_ends Told zero at rules x body told says = (x, body, told, says)
-chain_ends Told (suc n) at rules x body told says = (x, body, told, inl says)
+chain_ends Says zero at rules x body told says = (x, body, told, says)
+chain_ends Says (suc n) at rules x body told says = (x, body, told, inl says)
 
 -- a chain goes on after a redirect
-pub chain_goes_on : (Told : AddressText → Outcome → BodyValue → Type 0) (n m : ℕ) (at next : AddressText) (rules : RuleSetValue) (x : Outcome) (body : BodyValue)
-    → Told at x body → SaysHop x body.bytes n (Next next) → n ≡ m + 1 → IsChain Told m next rules → IsChain Told n at rules
+pub chain_goes_on : (Says : AddressText → Outcome → BodyValue → Type 0) (n m : ℕ) (at next : AddressText) (rules : RuleSetValue) (x : Outcome) (body : BodyValue)
+    → Says at x body → SaysHop x body.bytes n (Next next) → n ≡ m + 1 → IsChain Says m next rules → IsChain Says n at rules
 unfolding IsChain
-chain_goes_on Told zero m at next rules x body told says is chain = let none : 0 < 0 = says.0 in absurd (omega arith)
-chain_goes_on Told (suc n) m at next rules x body told says is chain =
+chain_goes_on Says zero m at next rules x body told says is chain = let none : 0 < 0 = says.0 in absurd (omega arith)
+chain_goes_on Says (suc n) m at next rules x body told says is chain =
     let same : m ≡ n = omega arith in
-    (x, body, told, inr (next, says, subst (λ k. IsChain Told k next rules) same chain))
+    (x, body, told, inr (next, says, subst (λ k. IsChain Says k next rules) same chain))
 
 -- a hop more, and a connection more
 pub one_more : (first before after : ℕ) (old new : List HopValue) (hop : HopValue) → before ≡ counted first (length old) → after ≡ counted before 1

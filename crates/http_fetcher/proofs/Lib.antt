@@ -1,5 +1,5 @@
 pub mod ChainLemmas
-pub mod TellingLemmas
+pub mod ReceivedLemmas
 pub mod MeaningLaws
 pub mod KeptLemmas
 pub mod ExitLemmas

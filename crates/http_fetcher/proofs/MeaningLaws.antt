@@ -27,13 +27,13 @@ may_answer_over wires question given answer (asked, left, inr (sent, silent, (by
     may_answer_bytes question (wires.failed asked) (wires.failed left) answer bytes answers
 
 -- a chain of received answers is one under any relation that contains them
-chain_of_more : (Told More : AddressText → Outcome → BodyValue → Type 0) (n : ℕ) (at : AddressText) (rules : RuleSetValue)
-    → ((at : AddressText) (x : Outcome) (body : BodyValue) → Told at x body → More at x body) → IsChain Told n at rules → IsChain More n at rules
+chain_of_more : (Says More : AddressText → Outcome → BodyValue → Type 0) (n : ℕ) (at : AddressText) (rules : RuleSetValue)
+    → ((at : AddressText) (x : Outcome) (body : BodyValue) → Says at x body → More at x body) → IsChain Says n at rules → IsChain More n at rules
 unfolding IsChain
-chain_of_more Told More zero at rules more (x, body, told, says) = (x, body, more at x body told, says)
-chain_of_more Told More (suc n) at rules more (x, body, told, inl ends) = (x, body, more at x body told, inl ends)
-chain_of_more Told More (suc n) at rules more (x, body, told, inr (next, on, rest)) =
-    (x, body, more at x body told, inr (next, on, chain_of_more Told More n next rules more rest))
+chain_of_more Says More zero at rules more (x, body, told, says) = (x, body, more at x body told, says)
+chain_of_more Says More (suc n) at rules more (x, body, told, inl ends) = (x, body, more at x body told, inl ends)
+chain_of_more Says More (suc n) at rules more (x, body, told, inr (next, on, rest)) =
+    (x, body, more at x body told, inr (next, on, chain_of_more Says More n next rules more rest))
 
 module _ {C W : Type 0} (connects : Connects C W) (wires : Wires W) (limits : Limited) where
   -- what was received over a connection, or that none was made, may be answered

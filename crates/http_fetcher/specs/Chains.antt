@@ -8,7 +8,6 @@ use Rattle.fetcher.specs.declared.outcome.Outcome.{Outcome}
 use Rattle.fetcher.specs.declared.outcome.Outcome.TheVariants.{Page, Moved, Leaf, Fault}
 use Rattle.answer_notes.specs.RobotsAnswers.{all_allowed, none_allowed, rules_by_status}
 use Rattle.answer_notes.specs.HopChains.{HopValue, IsAdmitted, rules_of_hops}
-use Rattle.answer_notes.specs.declared.told.Told.{Told}
 use Rattle.http_fetcher.specs.declared.chain.Hop.{Hop}
 use Rattle.http_fetcher.specs.declared.chain.Hop.TheVariants.{Next, Last}
 
@@ -36,10 +35,10 @@ SaysHop outcome file left (Last rules) = IsLast outcome left × (rules ≡ rules
 
 -- received answers give these rules: the first for this address, each further one for the target of a redirect, of which so many may still be followed
 unfoldable pub IsChain : (AddressText → Outcome → BodyValue → Type 0) → ℕ → AddressText → RuleSetValue → Type 0
-IsChain Told zero at rules = (x : Outcome) × (body : BodyValue) × Told at x body × SaysHop x body.bytes zero (Last rules)
-IsChain Told (suc n) at rules =
-    (x : Outcome) × (body : BodyValue) × Told at x body
-    × (SaysHop x body.bytes (suc n) (Last rules) ⊎ ((next : AddressText) × SaysHop x body.bytes (suc n) (Next next) × IsChain Told n next rules))
+IsChain Says zero at rules = (x : Outcome) × (body : BodyValue) × Says at x body × SaysHop x body.bytes zero (Last rules)
+IsChain Says (suc n) at rules =
+    (x : Outcome) × (body : BodyValue) × Says at x body
+    × (SaysHop x body.bytes (suc n) (Last rules) ⊎ ((next : AddressText) × SaysHop x body.bytes (suc n) (Next next) × IsChain Says n next rules))
 
 -- the rules are at the end of a chain with one hop for each connection that was requested between these counts
 abbrev pub CountsHops : ℕ → ℕ → OriginText → RuleSetValue → Type 0

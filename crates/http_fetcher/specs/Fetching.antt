@@ -20,9 +20,9 @@ use Rattle.fetcher.specs.declared.fault_kind.FaultKind.TheVariants as kind
 use Rattle.fetcher.specs.declared.fetcher.Ask.{Ask}
 use Rattle.fetcher.specs.declared.outcome.Outcome.{Outcome}
 use Rattle.fetcher.specs.declared.outcome.Outcome.TheVariants.{Fault, Leaf, Moved, Page}
-use Rattle.answer_notes.specs.Tellings.{outcome_told, body_told}
+use Rattle.answer_notes.specs.Received.{received_outcome, received_body}
 use Rattle.answer_notes.specs.declared.noted.Noted.{Noted}
-use Rattle.answer_notes.specs.declared.told.Told.{Told}
+use Rattle.answer_notes.specs.declared.received.Received.{Received}
 use Rattle.response_answer.specs.Digests.{digest_of, body_of}
 use Rattle.response_answer.specs.KindsOfFaults.{kind_of_fault}
 use Rattle.connect.specs.declared.connect.Connect.{Ghosts as Connects}
@@ -57,8 +57,8 @@ abbrev pub question_of : {C : Type 0} → Limited → Fetching C → AddressText
 question_of limits fetcher at = record { at = at; links = fetcher.links; keeps = fetcher.keeps; sends = fetcher.sends; limits = limits }
 
 -- what was received for an address, as an answer
-abbrev pub answer_told : LinkRules → AddressText → Told → Answer BodyValue
-answer_told links at told = record { outcome = outcome_told links at told; body = body_told told }
+abbrev pub received_answer : LinkRules → AddressText → Received → Answer BodyValue
+received_answer links at received = record { outcome = received_outcome links at received; body = received_body received }
 
 -- an answer, whose body is kept somewhere, represents this one
 abbrev pub IsKeptAs : {B : Type 0} → (B → BodyValue → Type 0) → Answer B → Answer BodyValue → Type 0

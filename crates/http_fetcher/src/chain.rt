@@ -1,9 +1,9 @@
 //! What one answer of a robots file says: a redirect to follow, or which rules these are (RFC 9309, section 2.3.1).
 ghost use Rattle.std.specs.Prelude.{◌≡◌, IfOk};
-ghost use Rattle.http_fetcher.specs.inner.Chains.{IsHopTold};
+ghost use Rattle.http_fetcher.specs.inner.Chains.{IsHopReceived};
 
 use address::Address;
-use answer_notes::Told;
+use answer_notes::Received;
 use robots_rules::RuleSet;
 use std::alloc::{AllocError, Global};
 
@@ -20,16 +20,16 @@ pub(crate) enum Hop {
 pub(crate) fn read_hop(
     alloc: Global,
     at: &Address,
-    told: &Told,
+    received: &Received,
     left: u32,
 ) -> Result<Hop, AllocError>
-    ensures { IfOk result (λ hop. IsHopTold at.now told.now left hop) }
+    ensures { IfOk result (λ hop. IsHopReceived at.now received.now left hop) }
 {
     if left == 0 {
-        return Ok(Hop::Last(told.rules(alloc)?));
+        return Ok(Hop::Last(received.rules(alloc)?));
     }
-    match told.target(at)? {
+    match received.target(at)? {
         Some(next) => Ok(Hop::Next(next)),
-        None => Ok(Hop::Last(told.rules(alloc)?)),
+        None => Ok(Hop::Last(received.rules(alloc)?)),
     }
 }

@@ -6,15 +6,15 @@ ghost use Rattle.response_reader.specs.Limits.{standard};
 ghost use Rattle.fetcher.specs.declared.fetcher.Ask.TheVariants as ask;
 ghost use Rattle.fetcher.specs.Logs.{GainedAtMost};
 ghost use Rattle.answer_notes.specs.RobotsAnswers.{max_redirects};
-ghost use Rattle.answer_notes.specs.Tellings.{outcome_told, body_told};
+ghost use Rattle.answer_notes.specs.Received.{received_outcome, received_body};
 ghost use Rattle.answer_notes.specs.HopChains.{rules_of_hops};
 ghost use Rattle.http_fetcher.specs.Chains.{CountsHops, IsChain};
-ghost use Rattle.http_fetcher.specs.Fetching.{AnsweredWithRetry, IsGiven, StandsBehind, StandsBy, answer_told, with_condition};
+ghost use Rattle.http_fetcher.specs.Fetching.{AnsweredWithRetry, IsGiven, StandsBehind, StandsBy, received_answer, with_condition};
 ghost use Rattle.http_fetcher.specs.Notes.{NotesPage, NotesChain};
 ghost use Rattle.http_fetcher.specs.Meanings.{MayAnswer, MayRule};
 
 use address::{Address, Origin};
-use answer_notes::{Hops, Noted, Recording, Telling, Told};
+use answer_notes::{Hops, Noted, Received, Receiving, Recording};
 use connect::Connect;
 use fetcher::{Answer, Ask, Body, Fetcher};
 use html_links::LinkRules;
@@ -284,14 +284,14 @@ impl<C: Connect> Fetcher for HttpFetcher<C> {
     }
 }
 
-impl<C: Connect> Telling for HttpFetcher<C> {
+impl<C: Connect> Receiving for HttpFetcher<C> {
     ghost links = { λ f. f.links };
 
     fn link_rules(&self) -> LinkRules {
         self.links
     }
 
-    fn ask_told(&mut self, at: &Address) -> Result<Told, AllocError>
+    fn ask_received(&mut self, at: &Address) -> Result<Received, AllocError>
         ensures asked { OnOk result (self.new.asks ≡ self.old.asks ++ ask.Page at.now ∷ []) }
         ensures refused { OnErr result (GainedAtMost self.old.asks self.new.asks (ask.Page at.now)) }
         // No connection is made before the request is logged.
@@ -302,9 +302,9 @@ impl<C: Connect> Telling for HttpFetcher<C> {
         // The result is what came over one connection after its own request. If none are kept, one is requested. Nothing is noted.
         ensures one { self.old.keeps ≡ false → OnOk result (C.made self.new.connect ≡ counted (C.made self.old.connect) 1) }
         ensures most { C.made self.new.connect ≤ C.made self.old.connect + 1 }
-        ensures told { IfOk result (λ t. AnsweredWithRetry C.Connect C.Wire.Wire standard self.old self.new at.now (answer_told self.old.links at.now t)) }
+        ensures told { IfOk result (λ t. AnsweredWithRetry C.Connect C.Wire.Wire standard self.old self.new at.now (received_answer self.old.links at.now t)) }
         ensures stands { StandsBy C.Connect C.Wire.Wire standard self.old self.new at.now }
-        ensures may { IfOk result (λ t. MayAnswer self.old.links at.now (outcome_told self.old.links at.now t) (body_told t)) }
+        ensures may { IfOk result (λ t. MayAnswer self.old.links at.now (received_outcome self.old.links at.now t) (received_body t)) }
         ensures is_recording { self.new.is_recording ≡ self.old.is_recording }
         ensures notes { self.new.notes ≡ self.old.notes }
     {

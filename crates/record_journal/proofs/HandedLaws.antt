@@ -7,8 +7,8 @@ use Rattle.address.specs.Address.{AddressText}
 use Rattle.fetcher.specs.declared.answer.Answer.{Answer}
 use Rattle.fetcher.specs.declared.outcome.Outcome.{Outcome}
 use Rattle.fetcher.specs.Logs.{GainedAtMost}
-use Rattle.answer_notes.specs.Tellings.{outcome_told, body_told}
-use Rattle.answer_notes.specs.declared.told.Told.{Told}
+use Rattle.answer_notes.specs.Received.{received_outcome, received_body}
+use Rattle.answer_notes.specs.declared.received.Received.{Received}
 use Rattle.answer_notes.specs.declared.noted.Noted.{Noted}
 use Rattle.site_records.specs.WrittenEntries.{written_note}
 use Rattle.record_journal.specs.Handed.{Journaling, IsHanded}
@@ -36,8 +36,8 @@ is_handed contents {n} {m} {j} {kept} old new same before note (inr (refused, mo
     )
 
 -- what was received says the answer that was made of it
-pub says_told : {S : Type 0} (says : S → AddressText → Outcome → BodyValue → Type 0) {was old : S} {given links : LinkRules} {at : AddressText} (told : Told) (a : Answer BodyValue) → was ≡ old → links ≡ given
-    → a.outcome ≡ outcome_told links at told → a.body ≡ body_told told → says was at (outcome_told given at told) (body_told told) → says old at a.outcome a.body
+pub says_told : {S : Type 0} (says : S → AddressText → Outcome → BodyValue → Type 0) {was old : S} {given links : LinkRules} {at : AddressText} (told : Received) (a : Answer BodyValue) → was ≡ old → links ≡ given
+    → a.outcome ≡ received_outcome links at told → a.body ≡ received_body told → says was at (received_outcome given at told) (received_body told) → says old at a.outcome a.body
 says_told says told a site links outcome body said = rw (outcome, body, links, sym site) said
 
 -- a journal gained a front of the entry of a note over what is the same before, and so of one that is equal

@@ -6,9 +6,9 @@ use Rattle.streams.specs.Streams.{AppendsFront}
 use Rattle.address.specs.Address.{AddressText, OriginText}
 use Rattle.robots_rules.specs.Access.{RuleSetValue}
 use Rattle.fetcher.specs.declared.answer.Answer.{Answer}
-use Rattle.answer_notes.specs.Tellings.{outcome_told, body_told}
+use Rattle.answer_notes.specs.Received.{received_outcome, received_body}
 use Rattle.answer_notes.specs.HopChains.{HopValue, rules_of_hops}
-use Rattle.answer_notes.specs.declared.told.Told.{Told}
+use Rattle.answer_notes.specs.declared.received.Received.{Received}
 use Rattle.answer_notes.specs.declared.noted.Noted.{Noted}
 use Rattle.answer_notes.specs.declared.noted.Noted.TheVariants.{Page, Chain}
 use Rattle.site_records.specs.WrittenEntries.{written_note}
@@ -34,7 +34,7 @@ IsStill old new = (new.journal ≡ old.journal) × (new.kept ≡ old.kept)
 -- a note of this address was handed over, which says this answer
 abbrev pub HandsPage : {F J : Type 0} → (J → Option (List ℕ)) → LinkRules → AddressText → Answer BodyValue → Journaling F J → Journaling F J → Type 0
 HandsPage contents links at answer old new =
-    (told : Told) × IsHanded contents (Page at told) old new × (answer.outcome ≡ outcome_told links at told) × (answer.body ≡ body_told told)
+    (received : Received) × IsHanded contents (Page at received) old new × (answer.outcome ≡ received_outcome links at received) × (answer.body ≡ received_body received)
 
 -- a note of this origin was handed over, which says these rules
 abbrev pub HandsChain : {F J : Type 0} → (J → Option (List ℕ)) → OriginText → RuleSetValue → Journaling F J → Journaling F J → Type 0
@@ -44,7 +44,7 @@ HandsChain contents of rules old new =
 -- after a call that failed the journal is what it was, or it gained a front of the entry of a note of this address
 abbrev pub IsHalfHandedPage : {F J : Type 0} → (J → Option (List ℕ)) → AddressText → Journaling F J → Journaling F J → Type 0
 IsHalfHandedPage contents at old new =
-    (new.journal ≡ old.journal) ⊎ ((told : Told) × AppendsFront (contents old.journal) (contents new.journal) (written_note (Page at told)))
+    (new.journal ≡ old.journal) ⊎ ((received : Received) × AppendsFront (contents old.journal) (contents new.journal) (written_note (Page at received)))
 
 -- the same of a note of this origin
 abbrev pub IsHalfHandedChain : {F J : Type 0} → (J → Option (List ℕ)) → OriginText → Journaling F J → Journaling F J → Type 0

@@ -9,7 +9,7 @@ ghost use Rattle.record_journal.specs.Handed.{HandsPage, HandsChain, IsHanded, I
 
 use crate::journal::Journal;
 use address::{Address, Origin};
-use answer_notes::{Noted, Recording, Telling};
+use answer_notes::{Noted, Receiving, Recording};
 use fetcher::{Answer, Ask, Body, Fetcher};
 use robots_rules::RuleSet;
 use site_records::push_note;
@@ -20,7 +20,7 @@ use streams::Pieces;
 /// Asks a fetcher, and hands what this receives to a journal before it answers. What the journal doesn't take is kept, so that
 /// it can be saved when all is done.
 #[derive(Drop)]
-pub struct Journaled<F: Telling, J: Journal> {
+pub struct Journaled<F: Receiving, J: Journal> {
     alloc: Global,
     inner: F,
     journal: J,
@@ -28,7 +28,7 @@ pub struct Journaled<F: Telling, J: Journal> {
     kept: Vec<Noted>,
 }
 
-impl<F: Telling, J: Journal> Model for Journaled<F, J> {
+impl<F: Receiving, J: Journal> Model for Journaled<F, J> {
     ghost use Rattle.record_journal.specs.Handed.{Journaling};
 
     ghost Value = { Journaling F J };
@@ -56,7 +56,7 @@ fn is_taken<J: Journal>(alloc: Global, journal: &mut J, note: &Noted) -> bool
     }
 }
 
-impl<F: Telling, J: Journal> Journaled<F, J> {
+impl<F: Receiving, J: Journal> Journaled<F, J> {
     /// Asks `inner`. If answers are saved, each goes to the journal. Takes no memory; later growth comes from `alloc`.
     pub fn new(alloc: Global, inner: F, journal: J, is_recording: bool) -> Journaled<F, J>
         ensures inner { result.inner ≡ inner }
@@ -116,9 +116,9 @@ impl<F: Telling, J: Journal> Journaled<F, J> {
         ensures half { OnErr result (IsHalfHandedPage J.contents at.now self.old self.new) }
     {
         let name = at.try_clone()?;
-        let told = self.inner.ask_told(at)?;
-        let answer = told.answer(self.alloc, at, self.inner.link_rules())?;
-        self.hand(Noted::Page(name, told))?;
+        let received = self.inner.ask_received(at)?;
+        let answer = received.answer(self.alloc, at, self.inner.link_rules())?;
+        self.hand(Noted::Page(name, received))?;
         Ok(answer)
     }
 
@@ -141,7 +141,7 @@ impl<F: Telling, J: Journal> Journaled<F, J> {
     }
 }
 
-impl<F: Telling, J: Journal> Fetcher for Journaled<F, J> {
+impl<F: Receiving, J: Journal> Fetcher for Journaled<F, J> {
     type Body = Body;
 
     ghost Site = { F.Site };
@@ -194,7 +194,7 @@ impl<F: Telling, J: Journal> Fetcher for Journaled<F, J> {
 }
 
 // What was received and isn't in the journal.
-impl<F: Telling, J: Journal> Recording for Journaled<F, J> {
+impl<F: Receiving, J: Journal> Recording for Journaled<F, J> {
     ghost noted = { λ f. f.kept };
 
     fn notes(&self) -> &[Noted] {

@@ -3,7 +3,7 @@ use crate::disk_journal::DiskJournal;
 use crate::held_journal::{HeldJournal, look_for_file};
 use crate::journal_fault::OpenJournalFault;
 use crate::saved_file::can_be_made;
-use answer_notes::{Noted, Told};
+use answer_notes::{Noted, Received};
 use html_links::LinkRules;
 use site_inputs::InputFault;
 use site_records::{RecordFault, RecordFront, RecordedSite, read_front, write_record};
@@ -275,9 +275,9 @@ fn left_beside<R: Eprint, D: Files>(
 // Whether a note says that no response was received.
 fn is_fault(note: &Noted) -> bool {
     match note {
-        Noted::Page(_, told) => matches!(told, Told::Fault(_)),
+        Noted::Page(_, received) => matches!(received, Received::Fault(_)),
         // A fault ends a chain.
-        Noted::Chain(chain) => matches!(chain.hops(), [.., (_, Told::Fault(_))]),
+        Noted::Chain(chain) => matches!(chain.hops(), [.., (_, Received::Fault(_))]),
     }
 }
 

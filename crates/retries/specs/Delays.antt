@@ -6,8 +6,8 @@ use Rattle.std.specs.Char.{is_ascii_digit}
 use Rattle.std.specs.Str.Parse.{digits_value}
 use Rattle.httpdate.specs.Date.{parse_secs}
 use Rattle.answer_notes.specs.HopChains.{HopValue}
-use Rattle.answer_notes.specs.declared.told.Told.{Told}
-use Rattle.answer_notes.specs.declared.told.Told.TheVariants.{Whole, Fault}
+use Rattle.answer_notes.specs.declared.received.Received.{Received}
+use Rattle.answer_notes.specs.declared.received.Received.TheVariants.{Whole, Fault}
 use Rattle.pacing.specs.Retries.{Retried}
 
 -- the seconds that digits say; more than 64 bits can say are as many as they can
@@ -25,9 +25,9 @@ unfoldable pub seconds_after : Option ℕ → List ℕ → Option ℕ
 seconds_after now value = option_or (seconds_in value) (option_and_then (seconds_until now) (parse_secs value))
 
 -- the seconds that what was received says at a time
-abbrev pub seconds_told : Option ℕ → Told → Option ℕ
-seconds_told now (Whole response) = option_and_then (seconds_after now) response.head.retry_after
-seconds_told now (Fault kind) = None
+abbrev pub retry_after_seconds : Option ℕ → Received → Option ℕ
+retry_after_seconds now (Whole response) = option_and_then (seconds_after now) response.head.retry_after
+retry_after_seconds now (Fault kind) = None
 
 -- The nanoseconds before one more try: those of the seconds that were said, or else those of one second, and of a second more for each
 -- try that was made again; no more than the longest pause
@@ -35,8 +35,8 @@ abbrev pub pause_of : Retried → ℕ → Option ℕ → ℕ
 pause_of retries made seconds = min (unwrap_or seconds (made + 1) * 1_000_000_000) retries.wait
 
 -- those after this was received
-abbrev pub pause_before : Retried → ℕ → Option ℕ → Told → ℕ
-pause_before retries made now told = pause_of retries made (seconds_told now told)
+abbrev pub pause_before : Retried → ℕ → Option ℕ → Received → ℕ
+pause_before retries made now received = pause_of retries made (retry_after_seconds now received)
 
 -- those after a response with this Retry-After, if it has one
 abbrev pub pause_after : Retried → ℕ → Option ℕ → Option (List ℕ) → ℕ

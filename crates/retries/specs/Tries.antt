@@ -8,21 +8,21 @@ use Rattle.fetcher.specs.declared.fetcher.Ask.{Ask}
 module _ {F X : Type 0} (log : F → List Ask) (lost : F → Option LossKind) (Says : F → X → Type 0) (worth : X → Option LossKind → Bool) (ask : Ask) where
   -- the fetcher was asked once, and received this
   abbrev pub IsTry : F → F → X → Type 0
-  IsTry old new told = (log new ≡ log old ++ ask ∷ []) × Says old told
+  IsTry old new received = (log new ≡ log old ++ ask ∷ []) × Says old received
 
   -- it received something each time that was worth another try, if its connection was lost for the reason that it had then, and at last this
   abbrev pub AreTries : F → List (X × F) → F → X → Type 0
-  AreTries old [] new told = IsTry old new told
-  AreTries old (earlier ∷ more) new told =
-      IsTry old earlier.1 earlier.0 × (worth earlier.0 (lost earlier.1) ≡ true) × AreTries earlier.1 more new told
+  AreTries old [] new received = IsTry old new received
+  AreTries old (earlier ∷ more) new received =
+      IsTry old earlier.1 earlier.0 × (worth earlier.0 (lost earlier.1) ≡ true) × AreTries earlier.1 more new received
 
   -- it was asked once and so often again, and received this last
   abbrev pub TriesSoFar : ℕ → F → F → X → Type 0
-  TriesSoFar made old new told = (earlier : List (X × F)) × AreTries old earlier new told × (length earlier ≡ made)
+  TriesSoFar made old new received = (earlier : List (X × F)) × AreTries old earlier new received × (length earlier ≡ made)
 
   -- it was asked once and at most so often again, and received this last: that is worth no other try, by the reason that it has now, or there
   -- is none left
   abbrev pub IsLastOf : ℕ → F → F → X → Type 0
-  IsLastOf most old new told =
-      (earlier : List (X × F)) × AreTries old earlier new told × (length earlier ≤ most)
-      × ((worth told (lost new) ≡ false) ⊎ (length earlier ≡ most))
+  IsLastOf most old new received =
+      (earlier : List (X × F)) × AreTries old earlier new received × (length earlier ≤ most)
+      × ((worth received (lost new) ≡ false) ⊎ (length earlier ≡ most))

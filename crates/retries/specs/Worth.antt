@@ -9,8 +9,8 @@ use Rattle.fetcher.specs.declared.fault_kind.FaultKind.TheVariants as kind
 use Rattle.fetcher.specs.declared.outcome.Outcome.{Outcome}
 use Rattle.fetcher.specs.declared.outcome.Outcome.TheVariants as outcome
 use Rattle.answer_notes.specs.HopChains.{HopValue}
-use Rattle.answer_notes.specs.declared.told.Told.{Told}
-use Rattle.answer_notes.specs.declared.told.Told.TheVariants.{Whole, Fault}
+use Rattle.answer_notes.specs.declared.received.Received.{Received}
+use Rattle.answer_notes.specs.declared.received.Received.TheVariants.{Whole, Fault}
 use Rattle.pacing.specs.Retries.{Retried}
 
 -- the status says that it may be another later, or is one of those that were named
@@ -44,7 +44,7 @@ is_worth_fault retries kind.Chunk lost = false
 is_worth_fault retries kind.BodyLong lost = false
 
 -- what was received for an address, if this was the connection's loss
-abbrev pub is_worth : Retried → Told → Option LossKind → Bool
+abbrev pub is_worth : Retried → Received → Option LossKind → Bool
 is_worth retries (Whole response) lost = is_worth_status retries response.head.status
 is_worth retries (Fault kind) lost = is_worth_fault retries kind lost
 

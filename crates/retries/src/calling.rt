@@ -4,14 +4,14 @@ ghost use Rattle.run_failures.specs.declared.loss_kind.LossKind.{LossKind};
 ghost use Rattle.retries.specs.Keeping.{lost_of};
 
 use address::Origin;
-use answer_notes::Telling;
+use answer_notes::Receiving;
 use connect::Connect;
 use http_fetcher::HttpFetcher;
 use run_failures::LossKind;
 use std::time::Duration;
 
 /// Asks as any fetcher does, knows why a connection was lost and what time it is, and can leave an origin alone.
-pub trait Calling: Telling {
+pub trait Calling: Receiving {
     // Why the last connection was lost, if it was.
     ghost lost: { Self → Option LossKind };
 

@@ -4,9 +4,9 @@ ghost use Rattle.std.specs.Duration.{as_nanos};
 ghost use Rattle.std.specs.List.{list_all};
 ghost use Rattle.std.specs.Char.{is_ascii_digit};
 ghost use Rattle.pacing.specs.Retries.{retries_by};
-ghost use Rattle.retries.specs.Delays.{pause_after, pause_before, pause_before_hops, pause_of, seconds_after, seconds_in, seconds_told};
+ghost use Rattle.retries.specs.Delays.{pause_after, pause_before, pause_before_hops, pause_of, seconds_after, seconds_in, retry_after_seconds};
 
-use answer_notes::{Hops, Told};
+use answer_notes::{Hops, Received};
 use httpdate::HttpDate;
 use pacing::Retries;
 use response_reader::number;
@@ -51,15 +51,15 @@ fn seconds_after(value: &[u8], now: Option<u64>) -> Option<u64>
 }
 
 // The seconds that what was received says at this time.
-fn seconds_told(told: &Told, now: Option<u64>) -> Option<u64>
-    ensures { result ≡ seconds_told now told.now }
+fn retry_after_seconds(received: &Received, now: Option<u64>) -> Option<u64>
+    ensures { result ≡ retry_after_seconds now received.now }
 {
-    match told {
-        Told::Whole(given) => match &given.response().retry_after {
+    match received {
+        Received::Whole(given) => match &given.response().retry_after {
             Some(value) => seconds_after(value, now),
             None => None,
         },
-        Told::Fault(_) => None,
+        Received::Fault(_) => None,
     }
 }
 
@@ -79,10 +79,15 @@ fn pause_of(retries: &Retries, made: u32, said: Option<u64>) -> Duration
 }
 
 // How long the origin is left alone after this was received, if so many tries were repeated, and this is the time.
-pub(crate) fn pause_before(retries: &Retries, made: u32, now: Option<u64>, told: &Told) -> Duration
-    ensures { as_nanos result ≡ pause_before (retries_by retries.now) made now told.now }
+pub(crate) fn pause_before(
+    retries: &Retries,
+    made: u32,
+    now: Option<u64>,
+    received: &Received,
+) -> Duration
+    ensures { as_nanos result ≡ pause_before (retries_by retries.now) made now received.now }
 {
-    pause_of(retries, made, seconds_told(told, now))
+    pause_of(retries, made, retry_after_seconds(received, now))
 }
 
 // The same after a response with this Retry-After, if it has one.
@@ -111,7 +116,7 @@ pub(crate) fn pause_before_hops(
     ensures { as_nanos result ≡ pause_before_hops (retries_by retries.now) made now hops.now.hops }
 {
     match hops.hops() {
-        [.., (_, told)] => pause_before(retries, made, now, told),
+        [.., (_, received)] => pause_before(retries, made, now, received),
         [] => Duration::ZERO,
     }
 }

@@ -11,4 +11,4 @@ mod worth;
 
 pub use crate::calling::{Calling, CallingConnect};
 pub use crate::keeping::ask_into;
-pub use crate::retrying::{ask, ask_robots, tell, tell_hops};
+pub use crate::retrying::{ask, ask_robots, receive, receive_hops};

@@ -1,9 +1,9 @@
 //! Requests that are made again.
 ghost use Rattle.std.specs.Prelude.{◌≡◌, ◌<◌, ◌++◌, ◌∷◌, [], IfOk, OnOk};
 ghost use Rattle.fetcher.specs.declared.fetcher.Ask.TheVariants as ask;
-ghost use Rattle.answer_notes.specs.Tellings.{outcome_told, body_told};
+ghost use Rattle.answer_notes.specs.Received.{received_outcome, received_body};
 ghost use Rattle.answer_notes.specs.HopChains.{ChainValue, rules_of_hops};
-ghost use Rattle.answer_notes.specs.declared.told.Told.{Told};
+ghost use Rattle.answer_notes.specs.declared.received.Received.{Received};
 ghost use Rattle.pacing.specs.Retries.{retries_by};
 ghost use Rattle.retries.specs.Tries.{IsLastOf};
 ghost use Rattle.retries.specs.Worth.{is_worth, is_worth_hops};
@@ -12,7 +12,7 @@ use crate::calling::Calling;
 use crate::delay::{pause_before, pause_before_hops};
 use crate::worth::{is_worth, is_worth_hops};
 use address::{Address, Origin};
-use answer_notes::{Hops, Told};
+use answer_notes::{Hops, Received};
 use fetcher::{Answer, Body};
 use pacing::Retries;
 use robots_rules::RuleSet;
@@ -35,27 +35,31 @@ fn leave_hops_alone<F: Calling>(
 }
 
 /// What a fetcher last receives for a page, as by [`ask`]. Fails only if memory runs out.
-pub fn tell<F: Calling>(inner: &mut F, retries: &Retries, at: &Address) -> Result<Told, AllocError>
+pub fn receive<F: Calling>(
+    inner: &mut F,
+    retries: &Retries,
+    at: &Address,
+) -> Result<Received, AllocError>
     ensures site { F.site inner.new ≡ F.site inner.old }
     ensures links { F.links inner.new ≡ F.links inner.old }
-    ensures told { IfOk result (λ t. F.says (F.site inner.old) at.now (outcome_told (F.links inner.old) at.now t) (body_told t)) }
-    ensures tries { IfOk result (λ t. IsLastOf F.log F.lost (λ f t. F.says (F.site f) at.now (outcome_told (F.links f) at.now t) (body_told t))
+    ensures told { IfOk result (λ t. F.says (F.site inner.old) at.now (received_outcome (F.links inner.old) at.now t) (received_body t)) }
+    ensures tries { IfOk result (λ t. IsLastOf F.log F.lost (λ f t. F.says (F.site f) at.now (received_outcome (F.links f) at.now t) (received_body t))
         (is_worth (retries_by retries.now)) (ask.Page at.now) retries.now.most inner.old inner.new t) }
 {
-    let mut told = inner.ask_told(at)?;
+    let mut received = inner.ask_received(at)?;
     for made in 0..retries.most {
-        if !is_worth(retries, &told, inner.loss()) {
-            return Ok(told);
+        if !is_worth(retries, &received, inner.loss()) {
+            return Ok(received);
         }
         let of = Origin::of(at)?;
-        inner.leave_alone(&of, pause_before(retries, made, inner.now(), &told));
-        told = inner.ask_told(at)?;
+        inner.leave_alone(&of, pause_before(retries, made, inner.now(), &received));
+        received = inner.ask_received(at)?;
     }
-    Ok(told)
+    Ok(received)
 }
 
 /// What a fetcher last receives for an origin's robots file, as by [`ask`]. Fails only if memory runs out.
-pub fn tell_hops<F: Calling>(
+pub fn receive_hops<F: Calling>(
     inner: &mut F,
     retries: &Retries,
     of: &Origin,
@@ -88,11 +92,11 @@ fn answer<F: Calling>(
 ) -> Result<Answer<Body>, AllocError>
     ensures site { F.site inner.new ≡ F.site inner.old }
     ensures told { IfOk result (λ a. F.says (F.site inner.old) at.now a.outcome a.body) }
-    ensures tries { IfOk result (λ a. (t : Told) × (a.outcome ≡ outcome_told (F.links inner.old) at.now t) × (a.body ≡ body_told t)
-        × IsLastOf F.log F.lost (λ f t. F.says (F.site f) at.now (outcome_told (F.links f) at.now t) (body_told t)) (is_worth (retries_by retries.now)) (ask.Page at.now) retries.now.most inner.old inner.new t) }
+    ensures tries { IfOk result (λ a. (t : Received) × (a.outcome ≡ received_outcome (F.links inner.old) at.now t) × (a.body ≡ received_body t)
+        × IsLastOf F.log F.lost (λ f t. F.says (F.site f) at.now (received_outcome (F.links f) at.now t) (received_body t)) (is_worth (retries_by retries.now)) (ask.Page at.now) retries.now.most inner.old inner.new t) }
 {
-    let told = tell(inner, retries, at)?;
-    told.into_answer(alloc, at, inner.link_rules())
+    let received = receive(inner, retries, at)?;
+    received.into_answer(alloc, at, inner.link_rules())
 }
 
 // The rules by what a fetcher last receives for an origin's robots file. Fails only if memory runs out.
@@ -107,7 +111,7 @@ fn rules_of<F: Calling>(
     ensures tries { IfOk result (λ r. (found : ChainValue) × (r ≡ rules_of_hops found.hops)
         × IsLastOf F.log F.lost (λ f found. F.rules (F.site f) of.now (rules_of_hops found.hops)) (λ found. is_worth_hops (retries_by retries.now) found.hops) (ask.Rules of.now) retries.now.most inner.old inner.new found) }
 {
-    let hops = tell_hops(inner, retries, of)?;
+    let hops = receive_hops(inner, retries, of)?;
     hops.rules(alloc)
 }
 
@@ -123,8 +127,8 @@ pub fn ask<F: Calling>(
     ensures site { F.site inner.new ≡ F.site inner.old }
     ensures told { IfOk result (λ a. F.says (F.site inner.old) at.now a.outcome a.body) }
     ensures once { retries.now.most ≡ 0 → OnOk result (F.log inner.new ≡ F.log inner.old ++ ask.Page at.now ∷ []) }
-    ensures tries { 0 < retries.now.most → IfOk result (λ a. (t : Told) × (a.outcome ≡ outcome_told (F.links inner.old) at.now t) × (a.body ≡ body_told t)
-        × IsLastOf F.log F.lost (λ f t. F.says (F.site f) at.now (outcome_told (F.links f) at.now t) (body_told t)) (is_worth (retries_by retries.now)) (ask.Page at.now) retries.now.most inner.old inner.new t) }
+    ensures tries { 0 < retries.now.most → IfOk result (λ a. (t : Received) × (a.outcome ≡ received_outcome (F.links inner.old) at.now t) × (a.body ≡ received_body t)
+        × IsLastOf F.log F.lost (λ f t. F.says (F.site f) at.now (received_outcome (F.links f) at.now t) (received_body t)) (is_worth (retries_by retries.now)) (ask.Page at.now) retries.now.most inner.old inner.new t) }
 {
     if retries.most == 0 {
         return inner.ask(at);

@@ -3,7 +3,7 @@ ghost use Rattle.std.specs.Prelude.{◌≡◌};
 ghost use Rattle.pacing.specs.Retries.{retries_by};
 ghost use Rattle.retries.specs.Worth.{is_worth, is_worth_fault, is_worth_hops, is_worth_loss, is_worth_outcome, is_worth_status};
 
-use answer_notes::{Hops, Told};
+use answer_notes::{Hops, Received};
 use fetcher::{FaultKind, Outcome};
 use pacing::Retries;
 use run_failures::LossKind;
@@ -56,12 +56,12 @@ fn is_worth_fault(retries: &Retries, kind: FaultKind, loss: Option<LossKind>) ->
 }
 
 // Whether what was received is worth another try, if this was the connection's loss.
-pub(crate) fn is_worth(retries: &Retries, told: &Told, loss: Option<LossKind>) -> bool
-    ensures { result ≡ is_worth (retries_by retries.now) told.now loss }
+pub(crate) fn is_worth(retries: &Retries, received: &Received, loss: Option<LossKind>) -> bool
+    ensures { result ≡ is_worth (retries_by retries.now) received.now loss }
 {
-    match told {
-        Told::Whole(given) => is_worth_status(retries, given.response().status),
-        Told::Fault(kind) => is_worth_fault(retries, *kind, loss),
+    match received {
+        Received::Whole(given) => is_worth_status(retries, given.response().status),
+        Received::Fault(kind) => is_worth_fault(retries, *kind, loss),
     }
 }
 
@@ -70,7 +70,7 @@ pub(crate) fn is_worth_hops(retries: &Retries, hops: &Hops, loss: Option<LossKin
     ensures { result ≡ is_worth_hops (retries_by retries.now) hops.now.hops loss }
 {
     match hops.hops() {
-        [.., (_, told)] => is_worth(retries, told, loss),
+        [.., (_, received)] => is_worth(retries, received, loss),
         [] => false,
     }
 }

@@ -4,7 +4,7 @@ use Rattle.std.specs.Prelude.{Ok, Err}
 use Rattle.address.specs.Address.{AddressText, OriginText, read_either}
 use Rattle.site_inputs.proofs.NameLaws.{records as names}
 use Rattle.answer_notes.specs.RobotsAnswers.{max_redirects}
-use Rattle.answer_notes.specs.Tellings.{target_told}
+use Rattle.answer_notes.specs.Received.{received_target}
 use Rattle.answer_notes.specs.HopChains.{HopValue, AreHops, IsAdmitted, robots_file}
 use Rattle.site_inputs.specs.declared.input_fault.InputLineFault.{InputLineFault}
 use Rattle.site_inputs.specs.declared.input_fault.InputLineFault.TheVariants.{Line, Address, Memory}
@@ -18,12 +18,12 @@ use Rattle.site_records.proofs.EntryLaws.{same_line}
 -- a hop after the others, where they lead
 led_on : (from : Option AddressText) (hops : List HopValue) (h : HopValue) → AreLed from hops → due from hops ≡ Some h.0 → AreLed from (hops ++ h ∷ [])
 led_on from [] h led is = (is, tt)
-led_on from (x ∷ hops) h led is = (led.0, led_on (target_told x.0 x.1) hops h led.1 is)
+led_on from (x ∷ hops) h led is = (led.0, led_on (received_target x.0 x.1) hops h led.1 is)
 
 -- it leads to where it redirects
-pub due_behind : (from : Option AddressText) (hops : List HopValue) (h : HopValue) → due from (hops ++ h ∷ []) ≡ target_told h.0 h.1
+pub due_behind : (from : Option AddressText) (hops : List HopValue) (h : HopValue) → due from (hops ++ h ∷ []) ≡ received_target h.0 h.1
 due_behind from [] h = refl
-due_behind from (x ∷ hops) h = due_behind (target_told x.0 x.1) hops h
+due_behind from (x ∷ hops) h = due_behind (received_target x.0 x.1) hops h
 
 -- one more hop is read
 pub row_grows : (of : OriginText) (text : List ℕ) (hops : List HopValue) (rest : List ℕ) (h : HopValue) (after : List ℕ) → IsBegun of text hops rest
@@ -43,12 +43,12 @@ admitted_from left at [] led some few ends = absurd (omega (arith, some))
 admitted_from zero at (h ∷ []) led some few ends = (sym (some_same at h.0 led.0), tt)
 admitted_from (suc left) at (h ∷ []) led some few ends =
     let here = sym (some_same at h.0 led.0) in
-    (here, subst (λ a. target_told a h.1 ≡ None) here (ends (omega arith)))
+    (here, subst (λ a. received_target a h.1 ≡ None) here (ends (omega arith)))
 admitted_from zero at (h ∷ second ∷ more) led some few ends = absurd (omega (arith, few))
 admitted_from (suc left) at (h ∷ second ∷ more) led some few ends =
     let here = sym (some_same at h.0 led.0) in (
       here,
-      subst (λ a. target_told a h.1 ≡ Some second.0) here led.1.0,
+      subst (λ a. received_target a h.1 ≡ Some second.0) here led.1.0,
       admitted_from left second.0 (second ∷ more) (refl, led.1.1) (omega arith) (omega (arith, few)) (λ less. ends (omega (arith, less))),
     )
 

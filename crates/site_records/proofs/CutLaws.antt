@@ -16,7 +16,7 @@ use Rattle.response_reader.specs.Response.{ResponseParts, CanBeGiven}
 use Rattle.response_reader.specs.Written.{head_text, response_text}
 use Rattle.answer_notes.specs.RobotsAnswers.{max_redirects}
 use Rattle.answer_notes.specs.HopChains.{HopValue, IsAdmitted, robots_file}
-use Rattle.answer_notes.specs.declared.told.Told.TheVariants as told
+use Rattle.answer_notes.specs.declared.received.Received.TheVariants as received
 use Rattle.answer_notes.specs.declared.noted.Noted.{Noted}
 use Rattle.answer_notes.specs.declared.noted.Noted.TheVariants as noted
 use Rattle.site_records.specs.declared.version.Version.TheVariants.{Second}
@@ -24,7 +24,7 @@ use Rattle.site_records.specs.EntryLines.{page, chain, hop, hopfault}
 use Rattle.site_records.specs.Entries.{IsLine, HasBytes}
 use Rattle.site_records.specs.Records.{IsFront, none}
 use Rattle.site_records.specs.Fronts.{HasNoLine, IsTornRow, IsTornEntry, IsFrontOfFirst, IsReadCut}
-use Rattle.site_records.specs.WrittenEntries.{line_of_three, counted_entry, chain_line, is_short, hop_entry, note_text, has_short_heads, IsToldOf, IsNote}
+use Rattle.site_records.specs.WrittenEntries.{line_of_three, counted_entry, chain_line, is_short, hop_entry, note_text, has_short_heads, IsReceivedFor, IsNote}
 use Rattle.site_records.proofs.FormLaws.{and_parts}
 use Rattle.site_records.proofs.WrittenEntryLaws.{IsPlain, plain_line, three_fields, ascii_line, line_is, has_bytes, length_is, small_response, short_head, all_visible, word_visible, address_visible, digits_visible, entry_text, hop_count}
 use Rattle.site_records.proofs.WrittenRecordLaws.{AreShort, AreFresh, notes_follow}
@@ -129,13 +129,13 @@ bytes_torn q more bytes rest k e later =
         inr (bytes, after, subst (λ t. HasBytes t (length bytes) bytes after) (sym (whole ∙ append_assoc bytes (10 ∷ []) after)) (has_bytes bytes after), later after back)
 
 -- hops that are cut
-hops_torn : (hops : List HopValue) (torn more : List ℕ) → All (λ (h : HopValue). IsToldOf h.0 h.1) hops → list_all (λ (h : HopValue). is_short h.1) hops ≡ true
+hops_torn : (hops : List HopValue) (torn more : List ℕ) → All (λ (h : HopValue). IsReceivedFor h.0 h.1) hops → list_all (λ (h : HopValue). is_short h.1) hops ≡ true
     → torn ++ more ≡ flat_map hop_entry hops → more ≢ [] → IsTornRow (length hops) torn
 hops_torn [] torn more are short e some = absurd (some (nothing_of torn more e).1)
-hops_torn ((at, told.Whole r) ∷ hops) torn more are short e some =
-    let (here, later) = and_parts (is_short (told.Whole r)) (list_all (λ (h : HopValue). is_short h.1) hops) short in
-    let is = All-head (λ (h : HopValue). IsToldOf h.0 h.1) (at, told.Whole r) hops are in
-    let few = short_head (told.Whole r) here in
+hops_torn ((at, received.Whole r) ∷ hops) torn more are short e some =
+    let (here, later) = and_parts (is_short (received.Whole r)) (list_all (λ (h : HopValue). is_short h.1) hops) short in
+    let is = All-head (λ (h : HopValue). IsReceivedFor h.0 h.1) (at, received.Whole r) hops are in
+    let few = short_head (received.Whole r) here in
     let bytes = response_text r in
     let n = length bytes in
     let small = small_response r is.1 few in
@@ -154,12 +154,12 @@ hops_torn ((at, told.Whole r) ∷ hops) torn more are short e some =
           is_line = subst (λ t. IsLine t line h.0) (sym h.1) (line_is line h.0 plain);
           form = (IsUtf8-from_ascii line (ascii_line line plain), (decimal n, three_fields (codes "hop") at (decimal n) word (address_visible at is.0) digits, length_is n small));
         },
-        bytes_torn h.0 more bytes rest (length hops) h.2 (λ q back. hops_torn hops q more (All-tail (λ (h : HopValue). IsToldOf h.0 h.1) (at, told.Whole r) hops are) later back some),
+        bytes_torn h.0 more bytes rest (length hops) h.2 (λ q back. hops_torn hops q more (All-tail (λ (h : HopValue). IsReceivedFor h.0 h.1) (at, received.Whole r) hops are) later back some),
       )
     ]
-hops_torn ((at, told.Fault kind) ∷ hops) torn more are short e some =
-    let (here, later) = and_parts (is_short (told.Fault kind)) (list_all (λ (h : HopValue). is_short h.1) hops) short in
-    let is = All-head (λ (h : HopValue). IsToldOf h.0 h.1) (at, told.Fault kind) hops are in
+hops_torn ((at, received.Fault kind) ∷ hops) torn more are short e some =
+    let (here, later) = and_parts (is_short (received.Fault kind)) (list_all (λ (h : HopValue). is_short h.1) hops) short in
+    let is = All-head (λ (h : HopValue). IsReceivedFor h.0 h.1) (at, received.Fault kind) hops are in
     let line = line_of_three (codes "hopfault") (word_of kind) at in
     let word = all_visible (codes "hopfault") refl in
     let plain = plain_line (codes "hopfault") (word_of kind) at word (word_visible kind) (address_visible at is) in
@@ -174,11 +174,11 @@ hops_torn ((at, told.Fault kind) ∷ hops) torn more are short e some =
           is_line = subst (λ t. IsLine t line h.0) (sym h.1) (line_is line h.0 plain);
           form = (IsUtf8-from_ascii line (ascii_line line plain), three_fields (codes "hopfault") (word_of kind) at word (word_visible kind) (address_visible at is));
         },
-        hops_torn hops h.0 more (All-tail (λ (h : HopValue). IsToldOf h.0 h.1) (at, told.Fault kind) hops are) later h.2 some,
+        hops_torn hops h.0 more (All-tail (λ (h : HopValue). IsReceivedFor h.0 h.1) (at, received.Fault kind) hops are) later h.2 some,
       )
     ]
 
-chain_torn : (of : OriginText) (hops : List HopValue) (torn more : List ℕ) → IsOrigin of → IsAdmitted of hops → All (λ (h : HopValue). IsToldOf h.0 h.1) hops
+chain_torn : (of : OriginText) (hops : List HopValue) (torn more : List ℕ) → IsOrigin of → IsAdmitted of hops → All (λ (h : HopValue). IsReceivedFor h.0 h.1) hops
     → list_all (λ (h : HopValue). is_short h.1) hops ≡ true → torn ++ more ≡ chain_line of (length hops) ++ flat_map hop_entry hops → more ≢ [] → IsTornEntry Second torn
 chain_torn of hops torn more is admitted told short e some =
     let n = length hops in
@@ -206,8 +206,8 @@ chain_torn of hops torn more is admitted told short e some =
 
 -- a proper front of what is written of a note ends within an entry
 pub note_torn : (note : Noted) (torn more : List ℕ) → IsNote note → has_short_heads note ≡ true → torn ++ more ≡ note_text note → more ≢ [] → IsTornEntry Second torn
-note_torn (noted.Page at (told.Whole r)) torn more is short e some = page_torn at r torn more is.0 is.1 (short_head (told.Whole r) short) e some
-note_torn (noted.Page at (told.Fault kind)) torn more is short e some =
+note_torn (noted.Page at (received.Whole r)) torn more is short e some = page_torn at r torn more is.0 is.1 (short_head (received.Whole r) short) e some
+note_torn (noted.Page at (received.Fault kind)) torn more is short e some =
     inl (fault_torn (line_of_three (codes "fault") (word_of kind) at) torn more (plain_line (codes "fault") (word_of kind) at (all_visible (codes "fault") refl) (word_visible kind) (address_visible at is)) e some)
 note_torn (noted.Chain c) torn more is short e some = chain_torn c.of c.hops torn more is.0 is.1 is.2 short e some
 

@@ -16,12 +16,12 @@ use Rattle.site_inputs.specs.declared.input_fault.InputLineFault.TheVariants.{Li
 use Rattle.site_inputs.specs.Names.{recorded as named, IsRecorded as IsNamed}
 use Rattle.site_records.specs.declared.reading.RecordReading.{RecordReading}
 use Rattle.site_records.specs.EntryLines.{Statement, page, fault, file, free, closed, chain, IsForm, HasForm, text_of, HopStatement, hop, hopfault}
-use Rattle.site_records.specs.Entries.{Entry, answered, ruled, chained, lines_of, no_response, HasBytes, IsLine, IsReadAs, States, IsAtRoot, Begins, IsRepeated, HasItsBytes, AreHopsOf, no_hops, more_hops, IsHop, TellsHop, IsBadRow, IsBadBehind, LeadsOn}
+use Rattle.site_records.specs.Entries.{Entry, answered, ruled, chained, lines_of, no_response, HasBytes, IsLine, IsReadAs, States, IsAtRoot, Begins, IsRepeated, HasItsBytes, AreHopsOf, no_hops, more_hops, IsHop, ReadsHop, IsBadRow, IsBadBehind, LeadsOn}
 use Rattle.site_records.specs.inner.Readings.{AddsLines, IsWrong, IsWrongAt, IsWrongChain, IsBadHop, IsStated, IsRuled, Keeps, TakesEntry, IsBad, Reads, lines_to, IsCounted}
 use Rattle.address.specs.Address.{AddressText, OriginText}
 use Rattle.answer_notes.specs.HopChains.{ChainValue, HopValue, IsAdmitted}
 use Rattle.answer_notes.specs.RobotsAnswers.{all_allowed, none_allowed}
-use Rattle.answer_notes.specs.declared.told.Told.{Told}
+use Rattle.answer_notes.specs.declared.received.Received.{Received}
 use Rattle.site_records.specs.declared.entry_fault.EntryFault.{EntryFault}
 use Rattle.site_records.specs.declared.entry_fault.EntryFault.TheVariants.{Own, Hop}
 use Rattle.site_records.specs.declared.taken.Taken.{Taken}
@@ -123,7 +123,7 @@ shorter_line text line behind is =
     let within = (position-Some (λ b. b == 10) text is.place 0 is.first).0 in
     rw (is.behind_is, length-drop) (omega (arith, within))
 
-shorter_told : (s : HopStatement) (behind : List ℕ) (told : Told) (after : List ℕ) → TellsHop s behind told after → length after ≤ length behind
+shorter_told : (s : HopStatement) (behind : List ℕ) (told : Received) (after : List ℕ) → ReadsHop s behind told after → length after ≤ length behind
 shorter_told (hop text n) behind told after h = let (bytes, has, _) = h in shorter_bytes behind bytes after n has
 shorter_told (hopfault kind text) behind told after h = rw h.0 (omega arith)
 

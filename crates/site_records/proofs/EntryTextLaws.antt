@@ -10,7 +10,7 @@ use Rattle.response_reader.specs.Response.{ResponseParts}
 use Rattle.response_reader.specs.Written.{head_text, response_text}
 use Rattle.answer_notes.specs.HopChains.{HopValue}
 use Rattle.answer_notes.specs.declared.noted.Noted.TheVariants.{Chain}
-use Rattle.site_records.specs.WrittenEntries.{line_of_three, counted_entry, chain_line, is_short, told_text, hop_entry, written_note, IsToldOf}
+use Rattle.site_records.specs.WrittenEntries.{line_of_three, counted_entry, chain_line, is_short, received_text, hop_entry, written_note, IsReceivedFor}
 
 -- what follows of a fact does if a call succeeds
 pub on_ok : {T E : Type 0} {P Q : Type 0} (r : Result T E) → (P → Q) → OnOk r P → OnOk r Q
@@ -48,7 +48,7 @@ one_short hops i h within is short = by (is_short h.1) refl
 
 -- one hop more
 pub hops_grow : (hops : List HopValue) (i : ℕ) (h : HopValue) (pieces old new : List ℕ) → i < length hops → h ≡ get_or hops i h → list_all (λ (h : HopValue). is_short h.1) hops ≡ true
-    → old ≡ pieces ++ flat_map hop_entry (take i hops) → new ≡ old ++ cond (is_short h.1) (told_text (codes "hop") (codes "hopfault") h.0 h.1) []
+    → old ≡ pieces ++ flat_map hop_entry (take i hops) → new ≡ old ++ cond (is_short h.1) (received_text (codes "hop") (codes "hopfault") h.0 h.1) []
     → new ≡ pieces ++ flat_map hop_entry (take (i + 1) hops)
 hops_grow hops i h pieces old new within is short was now =
     let here = one_short hops i h within is short in
@@ -61,10 +61,10 @@ hops_grow hops i h pieces old new within is short was now =
 
 -- one more hop was received
 pub told_more : (hops : List HopValue) (i : ℕ) (h : HopValue) → i < length hops → h ≡ get_or hops i h → list_all (λ (h : HopValue). is_short h.1) hops ≡ true
-    → All (λ (h : HopValue). IsToldOf h.0 h.1) (take i hops) → (is_short h.1 ≡ true → IsToldOf h.0 h.1) → All (λ (h : HopValue). IsToldOf h.0 h.1) (take (i + 1) hops)
+    → All (λ (h : HopValue). IsReceivedFor h.0 h.1) (take i hops) → (is_short h.1 ≡ true → IsReceivedFor h.0 h.1) → All (λ (h : HopValue). IsReceivedFor h.0 h.1) (take (i + 1) hops)
 told_more hops i h within is short was now =
-    subst (All (λ (h : HopValue). IsToldOf h.0 h.1)) (sym (taken_more hops i h within is))
-    (All-push (λ (h : HopValue). IsToldOf h.0 h.1) (take i hops) h was (now (one_short hops i h within is short)))
+    subst (All (λ (h : HopValue). IsReceivedFor h.0 h.1)) (sym (taken_more hops i h within is))
+    (All-push (λ (h : HopValue). IsReceivedFor h.0 h.1) (take i hops) h was (now (one_short hops i h within is short)))
 
 -- the pieces of a chain
 pub chain_text : (pieces line made all of : List ℕ) (hops : List HopValue) → line ≡ chain_line of (length hops) → made ≡ pieces ++ line → all ≡ made ++ flat_map hop_entry hops

@@ -9,8 +9,8 @@ use Rattle.std.proofs.lemmas.List.Elements.{All-nil}
 use Rattle.std.proofs.lemmas.List.Sums.{AllPass-from_list_all}
 use Rattle.httparse.specs.Grammar.{IsField, crlf, is_value_byte, ResponseHead, IsResponseHead, print_response}
 use Rattle.answer_notes.specs.RobotsAnswers.{rules_by_status, all_allowed, none_allowed}
-use Rattle.answer_notes.specs.Tellings.{rules_told}
-use Rattle.answer_notes.specs.declared.told.Told.TheVariants.{Whole}
+use Rattle.answer_notes.specs.Received.{received_rules}
+use Rattle.answer_notes.specs.declared.received.Received.TheVariants.{Whole}
 use Rattle.response_reader.specs.Fields.{framing_of, parts_of}
 use Rattle.response_reader.specs.declared.limits.TheConstants.{MAX_BODY}
 use Rattle.response_reader.specs.Response.{ResponseParts, CanBeGiven}
@@ -123,15 +123,15 @@ rules_front file = ap (λ s. record { closed = false; rules = fold with_rule [] 
 -- ---- the rules of these chains
 
 -- the first bytes of a file, taken for the answer, are its rules
-pub file_rules : (r : ResponseParts) (body file : List ℕ) (n : ℕ) → r ≡ bare 200 body → body ≡ take n file → n ≡ min 512001 (length file) → rules_told (Whole r) ≡ rules_in file
+pub file_rules : (r : ResponseParts) (body file : List ℕ) (n : ℕ) → r ≡ bare 200 body → body ≡ take n file → n ≡ min 512001 (length file) → received_rules (Whole r) ≡ rules_in file
 unfolding rules_by_status
 file_rules r body file n is front kept =
-    ap (λ (r : ResponseParts). rules_told (Whole r)) is ∙ ap rules_in (front ∙ ap (λ k. take k file) kept ∙ take_min 512001 file) ∙ rules_front file
+    ap (λ (r : ResponseParts). received_rules (Whole r)) is ∙ ap rules_in (front ∙ ap (λ k. take k file) kept ∙ take_min 512001 file) ∙ rules_front file
 
 -- a file that isn't there allows everything
-pub missing_rules : (r : ResponseParts) (body : List ℕ) → r ≡ bare 404 body → rules_told (Whole r) ≡ all_allowed
+pub missing_rules : (r : ResponseParts) (body : List ℕ) → r ≡ bare 404 body → received_rules (Whole r) ≡ all_allowed
 unfolding rules_by_status
-missing_rules r body is = ap (λ (r : ResponseParts). rules_told (Whole r)) is
+missing_rules r body is = ap (λ (r : ResponseParts). received_rules (Whole r)) is
 
 -- what follows of the value of a call
 pub if_ok : {T E : Type 0} {P Q : T → Type 0} (r : Result T E) → ((x : T) → P x → Q x) → IfOk r P → IfOk r Q

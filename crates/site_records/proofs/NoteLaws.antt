@@ -6,14 +6,14 @@ use Rattle.std.proofs.lemmas.List.{append-nil}
 use Rattle.kept_bodies.specs.Bodies.{BodyValue}
 use Rattle.address.specs.Address.{AddressText}
 use Rattle.fetcher.specs.declared.answer.Answer.{Answer}
-use Rattle.answer_notes.specs.Tellings.{outcome_told, body_told}
+use Rattle.answer_notes.specs.Received.{received_outcome, received_body}
 use Rattle.answer_notes.specs.HopChains.{ChainValue, rules_of_hops}
-use Rattle.answer_notes.specs.declared.told.Told.{Told}
-use Rattle.answer_notes.specs.declared.told.Told.TheVariants as told
+use Rattle.answer_notes.specs.declared.received.Received.{Received}
+use Rattle.answer_notes.specs.declared.received.Received.TheVariants as received
 use Rattle.answer_notes.specs.declared.noted.Noted.{Noted}
 use Rattle.answer_notes.specs.declared.noted.Noted.TheVariants.{Page, Chain}
 use Rattle.site_records.specs.declared.reading.RecordReading.{RecordReading}
-use Rattle.site_records.specs.Entries.{ruled, chained, IsReadAs, IsToldIn}
+use Rattle.site_records.specs.Entries.{ruled, chained, IsReadAs, IsReceivedIn}
 use Rattle.site_records.specs.Received.{has_lost}
 use Rattle.site_records.specs.Records.{answers_of}
 use Rattle.site_records.specs.WrittenEntries.{note_entry}
@@ -22,13 +22,13 @@ use Rattle.site_records.specs.inner.Readings.{Keeps, KeepsNote, with_lost}
 use Rattle.html_links.specs.declared.rules.LinkRules.{LinkRules}
 
 -- what bytes contain as a response is what they answer
-pub read_as_told : (links : LinkRules) (at : AddressText) (bytes : List ℕ) (t : Told) → IsToldIn bytes t → IsReadAs links at bytes (record { outcome = outcome_told links at t; body = body_told t })
-read_as_told links at bytes (told.Whole r) is = inl (record { response = r; begins = is; outcome = refl; body = refl })
-read_as_told links at bytes (told.Fault kind) (fault, text, of, kind_is) = inr (record { fault = fault; kind = kind; text = text; of_bytes = of; kind_is = kind_is; answer = refl })
+pub read_as_told : (links : LinkRules) (at : AddressText) (bytes : List ℕ) (t : Received) → IsReceivedIn bytes t → IsReadAs links at bytes (record { outcome = received_outcome links at t; body = received_body t })
+read_as_told links at bytes (received.Whole r) is = inl (record { response = r; begins = is; outcome = refl; body = refl })
+read_as_told links at bytes (received.Fault kind) (fault, text, of, kind_is) = inr (record { fault = fault; kind = kind; text = text; of_bytes = of; kind_is = kind_is; answer = refl })
 
 -- an answer is what was received if its parts are
-pub answer_is : (links : LinkRules) (at : AddressText) (t : Told) (a : Answer BodyValue) → a.outcome ≡ outcome_told links at t → a.body ≡ body_told t
-    → a ≡ record { outcome = outcome_told links at t; body = body_told t }
+pub answer_is : (links : LinkRules) (at : AddressText) (t : Received) (a : Answer BodyValue) → a.outcome ≡ received_outcome links at t → a.body ≡ received_body t
+    → a ≡ record { outcome = received_outcome links at t; body = received_body t }
 answer_is links at t a outcome body = λ i. record { outcome = outcome i; body = body i }
 
 -- a note is kept if notes are, and says its own entry
@@ -37,7 +37,7 @@ note_added true links old new note is = (note, is, record { answers = refl; rule
 note_added false links old new note is = is
 
 -- what was received for an address is kept after the others, and then its note
-pub keeps_page : (old mid new : RecordReading) (at : AddressText) (t : Told) → lookup (bytes_eq at) old.answers.entries ≡ None → mid ≡ record old { answers = mid.answers }
+pub keeps_page : (old mid new : RecordReading) (at : AddressText) (t : Received) → lookup (bytes_eq at) old.answers.entries ≡ None → mid ≡ record old { answers = mid.answers }
     → mid.answers.entries ≡ old.answers.entries ++ answers_of (note_entry old.links (Page at t) ∷ []) → new ≡ record mid { notes = new.notes }
     → new.notes.items ≡ cond mid.keeps_notes (mid.notes.items ++ Page at t ∷ []) mid.notes.items → KeepsNote old (Page at t) new
 keeps_page old mid new at t vacant first answers second items = record {

@@ -8,12 +8,12 @@ use Rattle.response_reader.specs.Response.{ResponseParts, BeginsWithResponse}
 use Rattle.response_reader.proofs.OneResponse.{one_response, faulty_has_none}
 use Rattle.response_answer.specs.Digests.{digest_of, body_of}
 use Rattle.answer_notes.specs.HopChains.{HopValue}
-use Rattle.answer_notes.specs.declared.told.Told.{Told}
-use Rattle.answer_notes.specs.declared.told.Told.TheVariants as told
+use Rattle.answer_notes.specs.declared.received.Received.{Received}
+use Rattle.answer_notes.specs.declared.received.Received.TheVariants as received
 use Rattle.site_inputs.specs.Names.{recorded as named, IsRecorded as IsNamed}
 use Rattle.site_records.specs.declared.version.Version.{Version}
 use Rattle.site_records.specs.EntryLines.{Statement, HasForm, text_of, HopStatement, HasHopForm, hop_text}
-use Rattle.site_records.specs.Entries.{Entry, IsLine, HasBytes, IsReadAs, States, IsAtRoot, IsEntry, IsToldIn, TellsHop, IsHop, AreHopsOf, no_hops, more_hops}
+use Rattle.site_records.specs.Entries.{Entry, IsLine, HasBytes, IsReadAs, States, IsAtRoot, IsEntry, IsReceivedIn, ReadsHop, IsHop, AreHopsOf, no_hops, more_hops}
 use Rattle.site_records.proofs.TornLaws.{begins_once, begins_hop_once}
 use Rattle.html_links.specs.declared.rules.LinkRules.{LinkRules}
 
@@ -35,9 +35,9 @@ one_answer links at bytes r a begins (inl d) =
 one_answer links at bytes r a begins (inr f) = absurd (faulty_has_none standard f.fault bytes f.text f.of_bytes r begins.0 begins.1)
 
 -- and contain it alone
-one_told : (bytes : List ℕ) (r : ResponseParts) (said : Told) → BeginsWithResponse r bytes → IsToldIn bytes said → said ≡ told.Whole r
-one_told bytes r (told.Whole q) begins is = ap told.Whole (one_response standard bytes q r is.0 begins.0 is.1 begins.1).0
-one_told bytes r (told.Fault kind) begins (fault, text, of, _) = absurd (faulty_has_none standard fault bytes text of r begins.0 begins.1)
+one_told : (bytes : List ℕ) (r : ResponseParts) (said : Received) → BeginsWithResponse r bytes → IsReceivedIn bytes said → said ≡ received.Whole r
+one_told bytes r (received.Whole q) begins is = ap received.Whole (one_response standard bytes q r is.0 begins.0 is.1 begins.1).0
+one_told bytes r (received.Fault kind) begins (fault, text, of, _) = absurd (faulty_has_none standard fault bytes text of r begins.0 begins.1)
 
 -- so does what follows the line of a page, and of a hop
 pub one_page : (links : LinkRules) (at : AddressText) (behind : List ℕ) (n : ℕ) (bytes after other rest : List ℕ) (r : ResponseParts) (a : Answer BodyValue)
@@ -47,11 +47,11 @@ one_page links at behind n bytes after other rest r a has begins has_other read 
     let (same, rests) = one_bytes_before behind n other bytes rest after has_other has in
     (one_answer links at bytes r a begins (subst (λ b. IsReadAs links at b a) same read), rests)
 
-pub one_hop_told : (behind : List ℕ) (n : ℕ) (bytes after other rest : List ℕ) (r : ResponseParts) (said : Told)
-    → HasBytes behind n bytes after → BeginsWithResponse r bytes → HasBytes behind n other rest → IsToldIn other said → (said ≡ told.Whole r) × (rest ≡ after)
+pub one_hop_told : (behind : List ℕ) (n : ℕ) (bytes after other rest : List ℕ) (r : ResponseParts) (said : Received)
+    → HasBytes behind n bytes after → BeginsWithResponse r bytes → HasBytes behind n other rest → IsReceivedIn other said → (said ≡ received.Whole r) × (rest ≡ after)
 one_hop_told behind n bytes after other rest r said has begins has_other tells =
     let (same, rests) = one_bytes_before behind n other bytes rest after has_other has in
-    (one_told bytes r said begins (subst (λ b. IsToldIn b said) same tells), rests)
+    (one_told bytes r said begins (subst (λ b. IsReceivedIn b said) same tells), rests)
 
 -- ---- from the line to the text
 
@@ -77,9 +77,9 @@ one_entry version links text line behind s e after is form is_named root states 
 abbrev pub IsOneHop : List ℕ → HopValue → List ℕ → Type 0
 IsOneHop text h after = IsHop text h after × ((g : HopValue) (rest : List ℕ) → IsHop text g rest → (g ≡ h) × (rest ≡ after))
 
-pub one_hop : (text line behind : List ℕ) (s : HopStatement) (at : AddressText) (said : Told) (after : List ℕ) → IsLine text line behind → HasHopForm line s
-    → IsNamed (hop_text s) → at ≡ named (hop_text s) → TellsHop s behind said after
-    → ((other : Told) (rest : List ℕ) → TellsHop s behind other rest → (other ≡ said) × (rest ≡ after)) → IsOneHop text (at, said) after
+pub one_hop : (text line behind : List ℕ) (s : HopStatement) (at : AddressText) (said : Received) (after : List ℕ) → IsLine text line behind → HasHopForm line s
+    → IsNamed (hop_text s) → at ≡ named (hop_text s) → ReadsHop s behind said after
+    → ((other : Received) (rest : List ℕ) → ReadsHop s behind other rest → (other ≡ said) × (rest ≡ after)) → IsOneHop text (at, said) after
 one_hop text line behind s at said after is form is_named at_is tells only = (
   record { line = line; behind = behind; says = s; is_line = is; form = form; is_named = is_named; at = at_is; tells = tells },
   others,
@@ -89,7 +89,7 @@ one_hop text line behind s at said after is form is_named at_is tells only = (
     others g rest other =
         let (says, left) = begins_hop_once text line behind s other.says other.behind is form (record { line = other.line; is_line = other.is_line; form = other.form }) in
         let place : g.0 ≡ at = other.at ∙ ap (λ t. named (hop_text t)) says ∙ sym at_is in
-        let (same, rests) = only g.1 rest (subst (λ b. TellsHop s b g.1 rest) left (subst (λ t. TellsHop t other.behind g.1 rest) says other.tells)) in
+        let (same, rests) = only g.1 rest (subst (λ b. ReadsHop s b g.1 rest) left (subst (λ t. ReadsHop t other.behind g.1 rest) says other.tells)) in
         ((λ i. (place i, same i)), rests)
 
 -- ---- a row of hops

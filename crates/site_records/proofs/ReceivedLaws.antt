@@ -14,7 +14,7 @@ use Rattle.robots_rules.specs.Access.{RuleSetValue}
 use Rattle.fetcher.specs.declared.answer.Answer.{Answer}
 use Rattle.fetcher.specs.Outcomes.{is_fault}
 use Rattle.answer_notes.specs.HopChains.{rules_of_hops}
-use Rattle.answer_notes.specs.declared.told.Told.TheVariants.{Whole, Fault}
+use Rattle.answer_notes.specs.declared.received.Received.TheVariants.{Whole, Fault}
 use Rattle.answer_notes.specs.declared.noted.Noted.{Noted}
 use Rattle.answer_notes.specs.declared.noted.Noted.TheVariants.{Page, Chain}
 use Rattle.response_answer.specs.Digests.{digest_of, outcome_by, is_document, is_sheet, target_of}

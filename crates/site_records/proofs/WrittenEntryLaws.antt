@@ -28,8 +28,8 @@ use Rattle.site_inputs.specs.Fields.{fields}
 use Rattle.answer_notes.specs.RobotsAnswers.{max_redirects}
 use Rattle.response_answer.specs.Digests.{digest_of, body_of}
 use Rattle.answer_notes.specs.HopChains.{HopValue, AreHops, IsAdmitted, robots_file}
-use Rattle.answer_notes.specs.declared.told.Told.{Told}
-use Rattle.answer_notes.specs.declared.told.Told.TheVariants as told
+use Rattle.answer_notes.specs.declared.received.Received.{Received}
+use Rattle.answer_notes.specs.declared.received.Received.TheVariants as received
 use Rattle.answer_notes.specs.declared.noted.Noted.{Noted}
 use Rattle.answer_notes.specs.declared.noted.Noted.TheVariants as noted
 use Rattle.site_records.specs.declared.version.Version.{Version}
@@ -39,7 +39,7 @@ use Rattle.site_records.specs.Entries.{Entry, answered, chained, no_response, Is
 use Rattle.fetcher.specs.declared.fault_kind.FaultKind.{FaultKind}
 use Rattle.fetcher.specs.FaultWords.{place_of, words, word_of}
 use Rattle.fetcher.proofs.FaultLaws.{has_row}
-use Rattle.site_records.specs.WrittenEntries.{line_of_three, counted_entry, worded_entry, chain_line, told_head, is_short, hop_entry, note_text, note_entry, has_short_heads, IsToldOf, IsNote}
+use Rattle.site_records.specs.WrittenEntries.{line_of_three, counted_entry, worded_entry, chain_line, received_head, is_short, hop_entry, note_text, note_entry, has_short_heads, IsReceivedFor, IsNote}
 use Rattle.site_records.proofs.FormLaws.{own_digits, and_parts}
 use Rattle.site_records.proofs.OneEntryLaws.{one_page, one_hop_told, IsOneEntry, one_entry, IsOneHop, one_hop, HopsRun, hops_run}
 use Rattle.html_links.specs.declared.rules.LinkRules.{LinkRules}
@@ -253,13 +253,13 @@ small_response r given short =
     let long = length-append (head_text r) r.body in
     omega (arith, long, body, short)
 
-pub short_head : (told : Told) → is_short told ≡ true → length (told_head told) ≤ MAX_HEADS
-short_head told h = leb-true (length (told_head told)) MAX_HEADS h
+pub short_head : (told : Received) → is_short told ≡ true → length (received_head told) ≤ MAX_HEADS
+short_head told h = leb-true (length (received_head told)) MAX_HEADS h
 
 -- what is written of a hop is one, and no other, whatever follows it
-told_is_one : (at : AddressText) (told : Told) (after : List ℕ) → IsToldOf at told → is_short told ≡ true → IsOneHop (hop_entry (at, told) ++ after) (at, told) after
-told_is_one at (told.Whole r) after h few =
-    let short = short_head (told.Whole r) few in
+told_is_one : (at : AddressText) (told : Received) (after : List ℕ) → IsReceivedFor at told → is_short told ≡ true → IsOneHop (hop_entry (at, told) ++ after) (at, told) after
+told_is_one at (received.Whole r) after h few =
+    let short = short_head (received.Whole r) few in
     let bytes = response_text r in
     let n = length bytes in
     let behind = bytes ++ 10 ∷ after in
@@ -268,22 +268,22 @@ told_is_one at (told.Whole r) after h few =
     let word = all_visible (codes "hop") refl in
     let digits = digits_visible (decimal n) (decimal_is_IsNumeral n (omega (arith, small))).0.1 in
     let plain = plain_line (codes "hop") at (decimal n) word (address_visible at h.0) digits in
-    subst (λ t. IsOneHop t (at, told.Whole r) after) (sym (entry_text (codes "hop") bytes after at))
-    (one_hop (line ++ 10 ∷ behind) line behind (hop at n) at (told.Whole r) after (line_is line behind plain)
+    subst (λ t. IsOneHop t (at, received.Whole r) after) (sym (entry_text (codes "hop") bytes after at))
+    (one_hop (line ++ 10 ∷ behind) line behind (hop at n) at (received.Whole r) after (line_is line behind plain)
     (IsUtf8-from_ascii line (ascii_line line plain), (decimal n, three_fields (codes "hop") at (decimal n) word (address_visible at h.0) digits, length_is n small))
     (subst (λ r. IsOk r) (sym h.0.either) refl) (sym (named_is at h.0)) (bytes, has_bytes bytes after, ([], written_reads_back r h.1 short))
     (λ other rest tells. one_hop_told behind n bytes after tells.0 rest r other (has_bytes bytes after) ([], written_reads_back r h.1 short) tells.1 tells.2))
-told_is_one at (told.Fault kind) after h few =
+told_is_one at (received.Fault kind) after h few =
     let line = line_of_three (codes "hopfault") (word_of kind) at in
     let word = all_visible (codes "hopfault") refl in
     let plain = plain_line (codes "hopfault") (word_of kind) at word (word_visible kind) (address_visible at h) in
-    subst (λ t. IsOneHop t (at, told.Fault kind) after) (sym (append_assoc line (10 ∷ []) after))
-    (one_hop (line ++ 10 ∷ after) line after (hopfault kind at) at (told.Fault kind) after (line_is line after plain)
+    subst (λ t. IsOneHop t (at, received.Fault kind) after) (sym (append_assoc line (10 ∷ []) after))
+    (one_hop (line ++ 10 ∷ after) line after (hopfault kind at) at (received.Fault kind) after (line_is line after plain)
     (IsUtf8-from_ascii line (ascii_line line plain), three_fields (codes "hopfault") (word_of kind) at word (word_visible kind) (address_visible at h))
     (subst (λ r. IsOk r) (sym h.either) refl) (sym (named_is at h)) (refl, refl) (λ other rest tells. (tells.1, tells.0)))
 
 -- what is written of hops is these, after others
-hops_follow : (text : List ℕ) (above hops : List HopValue) (after : List ℕ) → All (λ (h : HopValue). IsToldOf h.0 h.1) hops → list_all (λ (h : HopValue). is_short h.1) hops ≡ true
+hops_follow : (text : List ℕ) (above hops : List HopValue) (after : List ℕ) → All (λ (h : HopValue). IsReceivedFor h.0 h.1) hops → list_all (λ (h : HopValue). is_short h.1) hops ≡ true
     → AreHopsOf text above (flat_map hop_entry hops ++ after) → AreHopsOf text (above ++ hops) after
 hops_follow text above [] after told short are = subst (λ l. AreHopsOf text l after) (sym (append-nil above)) are
 hops_follow text above (h ∷ hops) after told short are =
@@ -291,12 +291,12 @@ hops_follow text above (h ∷ hops) after told short are =
     let rest = flat_map hop_entry hops ++ after in
     let whole : flat_map hop_entry (h ∷ hops) ++ after ≡ hop_entry h ++ rest = append_assoc (hop_entry h) (flat_map hop_entry hops) after in
     let begun = subst (λ t. AreHopsOf text above t) whole are in
-    let is = (told_is_one h.0 h.1 rest (All-head (λ (h : HopValue). IsToldOf h.0 h.1) h hops told) here).0 in
+    let is = (told_is_one h.0 h.1 rest (All-head (λ (h : HopValue). IsReceivedFor h.0 h.1) h hops told) here).0 in
     subst (λ l. AreHopsOf text l after) (append_assoc above (h ∷ []) hops)
-    (hops_follow text (above ++ h ∷ []) hops after (All-tail (λ (h : HopValue). IsToldOf h.0 h.1) h hops told) more (more_hops above (hop_entry h ++ rest) h rest begun is))
+    (hops_follow text (above ++ h ∷ []) hops after (All-tail (λ (h : HopValue). IsReceivedFor h.0 h.1) h hops told) more (more_hops above (hop_entry h ++ rest) h rest begun is))
 
 -- and no others, as many
-only_hops : (hops others : List HopValue) (after rest : List ℕ) → All (λ (h : HopValue). IsToldOf h.0 h.1) hops → list_all (λ (h : HopValue). is_short h.1) hops ≡ true
+only_hops : (hops others : List HopValue) (after rest : List ℕ) → All (λ (h : HopValue). IsReceivedFor h.0 h.1) hops → list_all (λ (h : HopValue). is_short h.1) hops ≡ true
     → length others ≡ length hops → HopsRun (flat_map hop_entry hops ++ after) others rest → (others ≡ hops) × (rest ≡ after)
 only_hops [] [] after rest told short long run = (refl, run)
 only_hops [] (g ∷ others) after rest told short long run = absurd (omega (arith, long))
@@ -305,8 +305,8 @@ only_hops (h ∷ hops) (g ∷ others) after rest told short long (left, is, run)
     let (here, more) = and_parts (is_short h.1) (list_all (λ (h : HopValue). is_short h.1) hops) short in
     let behind = flat_map hop_entry hops ++ after in
     let whole : flat_map hop_entry (h ∷ hops) ++ after ≡ hop_entry h ++ behind = append_assoc (hop_entry h) (flat_map hop_entry hops) after in
-    let (same, lefts) = (told_is_one h.0 h.1 behind (All-head (λ (h : HopValue). IsToldOf h.0 h.1) h hops told) here).1 g left (subst (λ t. IsHop t g left) whole is) in
-    let (alike, rests) = only_hops hops others after rest (All-tail (λ (h : HopValue). IsToldOf h.0 h.1) h hops told) more (omega (arith, long)) (subst (λ t. HopsRun t others rest) lefts run) in
+    let (same, lefts) = (told_is_one h.0 h.1 behind (All-head (λ (h : HopValue). IsReceivedFor h.0 h.1) h hops told) here).1 g left (subst (λ t. IsHop t g left) whole is) in
+    let (alike, rests) = only_hops hops others after rest (All-tail (λ (h : HopValue). IsReceivedFor h.0 h.1) h hops told) more (omega (arith, long)) (subst (λ t. HopsRun t others rest) lefts run) in
     ((λ i. same i ∷ alike i), rests)
 
 -- ---- an entry of a chain
@@ -327,7 +327,7 @@ root_path of is =
     sym (append_cancel_left of (codes "/") (path_query_of (of ++ codes "/")) own)
 
 -- what is written of a chain is one entry, whatever follows it
-chain_is_one : (links : LinkRules) (of : OriginText) (hops : List HopValue) (after : List ℕ) → IsOrigin of → IsAdmitted of hops → All (λ (h : HopValue). IsToldOf h.0 h.1) hops
+chain_is_one : (links : LinkRules) (of : OriginText) (hops : List HopValue) (after : List ℕ) → IsOrigin of → IsAdmitted of hops → All (λ (h : HopValue). IsReceivedFor h.0 h.1) hops
     → list_all (λ (h : HopValue). is_short h.1) hops ≡ true
     → IsOneEntry Second links ((chain_line of (length hops) ++ flat_map hop_entry hops) ++ after) (chained of hops) after
 chain_is_one links of hops after is admitted told short =
@@ -362,10 +362,10 @@ chain_is_one links of hops after is admitted told short =
 
 -- what is written of a note is its entry and no other, whatever follows it
 pub note_is_one : (links : LinkRules) (note : Noted) (after : List ℕ) → IsNote note → has_short_heads note ≡ true → IsOneEntry Second links (note_text note ++ after) (note_entry links note) after
-note_is_one links (noted.Page at (told.Whole r)) after h short =
-    let few = short_head (told.Whole r) short in
+note_is_one links (noted.Page at (received.Whole r)) after h short =
+    let few = short_head (received.Whole r) short in
     page_is_one Second links at r after h.0 h.1 few (small_response r h.1 few)
-note_is_one links (noted.Page at (told.Fault kind)) after h short = fault_is_one Second links at kind after h
+note_is_one links (noted.Page at (received.Fault kind)) after h short = fault_is_one Second links at kind after h
 note_is_one links (noted.Chain c) after h short = chain_is_one links c.of c.hops after h.0 h.1 h.2 short
 
 pub note_is_entry : (links : LinkRules) (note : Noted) (after : List ℕ) → IsNote note → has_short_heads note ≡ true → IsEntry Second links (note_text note ++ after) (note_entry links note) after

@@ -17,10 +17,10 @@ use Rattle.fetcher.specs.declared.outcome.Outcome.TheVariants.{Fault}
 use Rattle.response_answer.specs.Digests.{digest_of, body_of}
 use Rattle.response_answer.specs.KindsOfFaults.{kind_of_fault}
 use Rattle.answer_notes.specs.RobotsAnswers.{max_redirects}
-use Rattle.answer_notes.specs.Tellings.{target_told}
+use Rattle.answer_notes.specs.Received.{received_target}
 use Rattle.answer_notes.specs.HopChains.{HopValue, IsAdmitted, robots_file}
-use Rattle.answer_notes.specs.declared.told.Told.{Told}
-use Rattle.answer_notes.specs.declared.told.Told.TheVariants as told
+use Rattle.answer_notes.specs.declared.received.Received.{Received}
+use Rattle.answer_notes.specs.declared.received.Received.TheVariants as received
 use Rattle.site_records.specs.declared.version.Version.{Version}
 use Rattle.site_inputs.specs.Names.{recorded as named, IsRecorded as IsNamed}
 use Rattle.site_records.specs.EntryLines.{Statement, page, fault, file, free, closed, chain, HasForm, text_of, HopStatement, hop, hopfault, HasHopForm, hop_text}
@@ -85,14 +85,14 @@ pub record HasBytes (text : List ℕ) (n : ℕ) (bytes after : List ℕ) : Type 
 -- ---- the hops of a chain
 
 -- what bytes contain as the response for a hop: a response that they begin with, or the fault by which none is read
-abbrev pub IsToldIn : List ℕ → Told → Type 0
-IsToldIn bytes (told.Whole response) = BeginsWithResponse response bytes
-IsToldIn bytes (told.Fault kind) = (f : ReadFault) × IsTextFault f × IsReadFault standard f bytes × (kind_of_fault f ≡ Some kind)
+abbrev pub IsReceivedIn : List ℕ → Received → Type 0
+IsReceivedIn bytes (received.Whole response) = BeginsWithResponse response bytes
+IsReceivedIn bytes (received.Fault kind) = (f : ReadFault) × IsTextFault f × IsReadFault standard f bytes × (kind_of_fault f ≡ Some kind)
 
 -- a line that says this of a hop and what follows it contain this, and then `after` follows
-abbrev pub TellsHop : HopStatement → List ℕ → Told → List ℕ → Type 0
-TellsHop (hop text n) behind said after = (bytes : List ℕ) × HasBytes behind n bytes after × IsToldIn bytes said
-TellsHop (hopfault kind text) behind said after = (after ≡ behind) × (said ≡ told.Fault kind)
+abbrev pub ReadsHop : HopStatement → List ℕ → Received → List ℕ → Type 0
+ReadsHop (hop text n) behind said after = (bytes : List ℕ) × HasBytes behind n bytes after × IsReceivedIn bytes said
+ReadsHop (hopfault kind text) behind said after = (after ≡ behind) × (said ≡ received.Fault kind)
 
 -- the text begins with this hop, and after follows
 pub record IsHop (text : List ℕ) (h : HopValue) (after : List ℕ) : Type 0 where
@@ -103,7 +103,7 @@ pub record IsHop (text : List ℕ) (h : HopValue) (after : List ℕ) : Type 0 wh
   pub form : HasHopForm line says
   pub is_named : IsNamed (hop_text says)
   pub at : h.0 ≡ named (hop_text says)
-  pub tells : TellsHop says behind h.1 after
+  pub tells : ReadsHop says behind h.1 after
 
 -- the text is these hops, and then a rest
 pub data AreHopsOf (text : List ℕ) : List HopValue → List ℕ → Type 0 where
@@ -114,12 +114,12 @@ pub data AreHopsOf (text : List ℕ) : List HopValue → List ℕ → Type 0 whe
 -- where a chain leads from this address on: after its last hop, the target of its redirect
 abbrev pub due : Option AddressText → List HopValue → Option AddressText
 due from [] = from
-due from (h ∷ hops) = due (target_told h.0 h.1) hops
+due from (h ∷ hops) = due (received_target h.0 h.1) hops
 
 -- each hop is where the chain leads
 abbrev pub AreLed : Option AddressText → List HopValue → Type 0
 AreLed from [] = ⊤
-AreLed from (h ∷ hops) = (from ≡ Some h.0) × AreLed (target_told h.0 h.1) hops
+AreLed from (h ∷ hops) = (from ≡ Some h.0) × AreLed (received_target h.0 h.1) hops
 
 -- the first address of an origin's chain
 abbrev pub chain_start : OriginText → Option AddressText

@@ -7,13 +7,13 @@ use Rattle.robots_rules.specs.Access.{RuleSetValue}
 use Rattle.fetcher.specs.Outcomes.{is_fault}
 use Rattle.fetcher.specs.declared.answer.Answer.{Answer}
 use Rattle.answer_notes.specs.HopChains.{HopValue}
-use Rattle.answer_notes.specs.declared.told.Told.{Told}
-use Rattle.answer_notes.specs.declared.told.Told.TheVariants.{Whole, Fault}
+use Rattle.answer_notes.specs.declared.received.Received.{Received}
+use Rattle.answer_notes.specs.declared.received.Received.TheVariants.{Whole, Fault}
 use Rattle.site_records.specs.Entries.{Entry, answered, ruled, chained}
 use Rattle.site_records.specs.Records.{answers_of, rules_of}
 
 -- no response was received
-abbrev pub is_lost : Told → Bool
+abbrev pub is_lost : Received → Bool
 is_lost (Whole response) = false
 is_lost (Fault kind) = true
 

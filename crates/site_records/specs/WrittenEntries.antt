@@ -7,10 +7,10 @@ use Rattle.fetcher.specs.FaultWords.{word_of}
 use Rattle.response_reader.specs.declared.limits.TheConstants.{MAX_HEADS}
 use Rattle.response_reader.specs.Response.{CanBeGiven}
 use Rattle.response_reader.specs.Written.{head_text, response_text}
-use Rattle.answer_notes.specs.Tellings.{outcome_told, body_told}
+use Rattle.answer_notes.specs.Received.{received_outcome, received_body}
 use Rattle.answer_notes.specs.HopChains.{HopValue, IsAdmitted}
-use Rattle.answer_notes.specs.declared.told.Told.{Told}
-use Rattle.answer_notes.specs.declared.told.Told.TheVariants.{Whole, Fault}
+use Rattle.answer_notes.specs.declared.received.Received.{Received}
+use Rattle.answer_notes.specs.declared.received.Received.TheVariants.{Whole, Fault}
 use Rattle.answer_notes.specs.declared.noted.Noted.{Noted}
 use Rattle.answer_notes.specs.declared.noted.Noted.TheVariants.{Page, Chain}
 use Rattle.site_records.specs.Entries.{Entry, answered, chained}
@@ -35,33 +35,33 @@ chain_line of n = line_of_three (codes "chain") (of ++ codes "/") (decimal n) ++
 -- ---- what was received for an address
 
 -- the head that is written of it: that of a response
-abbrev pub told_head : Told → List ℕ
-told_head (Whole r) = head_text r
-told_head (Fault kind) = []
+abbrev pub received_head : Received → List ℕ
+received_head (Whole r) = head_text r
+received_head (Fault kind) = []
 
 -- it can be read again: its head is as short as heads may be
-abbrev pub is_short : Told → Bool
-is_short told = nat_le (length (told_head told)) MAX_HEADS
+abbrev pub is_short : Received → Bool
+is_short received = nat_le (length (received_head received)) MAX_HEADS
 
 -- its text, under the word of a response or that of a fault
-abbrev pub told_text : List ℕ → List ℕ → AddressText → Told → List ℕ
-told_text word fault_word at (Whole r) = counted_entry word at (response_text r)
-told_text word fault_word at (Fault kind) = worded_entry fault_word kind at
+abbrev pub received_text : List ℕ → List ℕ → AddressText → Received → List ℕ
+received_text word fault_word at (Whole r) = counted_entry word at (response_text r)
+received_text word fault_word at (Fault kind) = worded_entry fault_word kind at
 
 -- the text of a hop
 abbrev pub hop_entry : HopValue → List ℕ
-hop_entry h = told_text (codes "hop") (codes "hopfault") h.0 h.1
+hop_entry h = received_text (codes "hop") (codes "hopfault") h.0 h.1
 
 -- ---- what was noted
 
 -- the text of a note
 abbrev pub note_text : Noted → List ℕ
-note_text (Page at told) = told_text (codes "page") (codes "fault") at told
+note_text (Page at received) = received_text (codes "page") (codes "fault") at received
 note_text (Chain c) = chain_line c.of (length c.hops) ++ flat_map hop_entry c.hops
 
 -- each head of it is short enough to be read again
 abbrev pub has_short_heads : Noted → Bool
-has_short_heads (Page at told) = is_short told
+has_short_heads (Page at received) = is_short received
 has_short_heads (Chain c) = list_all (λ (h : HopValue). is_short h.1) c.hops
 
 -- the text of a note, which is left out if a head of it is too long
@@ -70,17 +70,17 @@ written_note note = if has_short_heads note then note_text note else []
 
 -- the entry that a note is
 abbrev pub note_entry : LinkRules → Noted → Entry
-note_entry links (Page at told) = answered at (record { outcome = outcome_told links at told; body = body_told told })
+note_entry links (Page at received) = answered at (record { outcome = received_outcome links at received; body = received_body received })
 note_entry links (Chain c) = chained c.of c.hops
 
 -- ---- what notes are made of
 
 -- an address, and a response that some bytes give or a fault
-abbrev pub IsToldOf : AddressText → Told → Type 0
-IsToldOf at (Whole r) = IsAddress at × CanBeGiven r
-IsToldOf at (Fault kind) = IsAddress at
+abbrev pub IsReceivedFor : AddressText → Received → Type 0
+IsReceivedFor at (Whole r) = IsAddress at × CanBeGiven r
+IsReceivedFor at (Fault kind) = IsAddress at
 
 -- a note of an address, or of an origin with a chain that leads from its robots file
 abbrev pub IsNote : Noted → Type 0
-IsNote (Page at told) = IsToldOf at told
-IsNote (Chain c) = IsOrigin c.of × IsAdmitted c.of c.hops × All (λ (h : HopValue). IsToldOf h.0 h.1) c.hops
+IsNote (Page at received) = IsReceivedFor at received
+IsNote (Chain c) = IsOrigin c.of × IsAdmitted c.of c.hops × All (λ (h : HopValue). IsReceivedFor h.0 h.1) c.hops

@@ -13,17 +13,17 @@ use Rattle.html_links.specs.declared.rules.LinkRules.{LinkRules}
 
 -- the note is of this address
 abbrev pub is_page_of : AddressText → Noted → Bool
-is_page_of at (Page other told) = bytes_eq other at
+is_page_of at (Page other received) = bytes_eq other at
 is_page_of at (Chain c) = false
 
 -- the note is of this origin
 abbrev pub is_chain_of : OriginText → Noted → Bool
-is_chain_of of (Page at told) = false
+is_chain_of of (Page at received) = false
 is_chain_of of (Chain c) = bytes_eq c.of of
 
 -- a note above is of the same address, or of the same origin
 abbrev pub is_repeated : List Noted → Noted → Bool
-is_repeated above (Page at told) = list_any (is_page_of at) above
+is_repeated above (Page at received) = list_any (is_page_of at) above
 is_repeated above (Chain c) = list_any (is_chain_of c.of) above
 
 -- those notes that none before them repeat, after others

@@ -4,11 +4,11 @@ ghost use Rattle.robots_rules.specs.Groups.{rules_in};
 ghost use Rattle.response_reader.specs.Response.{CanBeGiven};
 ghost use Rattle.answer_notes.specs.RobotsAnswers.{none_allowed, all_allowed};
 ghost use Rattle.answer_notes.specs.HopChains.{rules_of_hops, robots_file};
-ghost use Rattle.answer_notes.specs.Tellings.{target_told, rules_told};
+ghost use Rattle.answer_notes.specs.Received.{received_target, received_rules};
 ghost use Rattle.site_records.specs.Received.{has_lost};
 
 use address::Origin;
-use answer_notes::{Given, Hops, Told};
+use answer_notes::{Given, Hops, Received};
 use fetcher::{FaultKind, NOT_FOUND};
 use response_reader::Response;
 use std::alloc::{AllocError, Global};
@@ -18,14 +18,14 @@ use std::alloc::{AllocError, Global};
 const KEPT_FILE: usize = 512_001;
 
 // The chain of one answer for an origin's robots file, without a redirect. Fails only if memory runs out.
-fn chain_of(alloc: Global, of: &Origin, told: Told) -> Result<Hops, AllocError>
-    requires { target_told (robots_file of.now) told ≡ None }
+fn chain_of(alloc: Global, of: &Origin, received: Received) -> Result<Hops, AllocError>
+    requires { received_target (robots_file of.now) received ≡ None }
     ensures of { IfOk result (λ hops. hops.of ≡ of.now) }
-    ensures rules { IfOk result (λ hops. rules_of_hops hops.hops ≡ rules_told told) }
-    ensures hops { IfOk result (λ hops. hops.hops ≡ (robots_file of.now, told) ∷ []) }
+    ensures rules { IfOk result (λ hops. rules_of_hops hops.hops ≡ received_rules received) }
+    ensures hops { IfOk result (λ hops. hops.hops ≡ (robots_file of.now, received) ∷ []) }
 {
     let mut hops = Vec::new(alloc);
-    hops.push((of.robots_file()?, told))?;
+    hops.push((of.robots_file()?, received))?;
     Ok(Hops::new(of.try_clone()?, hops))
 }
 
@@ -47,7 +47,7 @@ pub(crate) fn file_chain(alloc: Global, of: &Origin, file: &[u8]) -> Result<Hops
         etag: None,
         body,
     };
-    chain_of(alloc, of, Told::Whole(Given::new(response)))
+    chain_of(alloc, of, Received::Whole(Given::new(response)))
 }
 
 /// The chain that allows everything because there is no robots file (RFC 9309, section 2.3.1.3), or nothing because the file
@@ -58,7 +58,7 @@ pub(crate) fn bare_chain(alloc: Global, of: &Origin, allowed: bool) -> Result<Ho
     ensures lost { IfOk result (λ hops. has_lost hops.hops ≡ not allowed) }
 {
     if !allowed {
-        return chain_of(alloc, of, Told::Fault(FaultKind::Device));
+        return chain_of(alloc, of, Received::Fault(FaultKind::Device));
     }
     let response = Response {
         status: NOT_FOUND,
@@ -70,5 +70,5 @@ pub(crate) fn bare_chain(alloc: Global, of: &Origin, allowed: bool) -> Result<Ho
         etag: None,
         body: Vec::new(alloc),
     };
-    chain_of(alloc, of, Told::Whole(Given::new(response)))
+    chain_of(alloc, of, Received::Whole(Given::new(response)))
 }

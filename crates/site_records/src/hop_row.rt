@@ -2,7 +2,7 @@
 ghost use Rattle.std.specs.Prelude.{◌≡◌, ◌≤◌, ℕ, List, Some, IfOk, MatchResult, length};
 ghost use Rattle.answer_notes.specs.HopChains.{IsAdmitted};
 ghost use Rattle.site_records.specs.EntryLines.{IsHopCount};
-ghost use Rattle.site_records.specs.Entries.{AreHopsOf, IsBegun, IsHop, IsToldIn, chain_start, due};
+ghost use Rattle.site_records.specs.Entries.{AreHopsOf, IsBegun, IsHop, IsReceivedIn, chain_start, due};
 ghost use Rattle.site_records.specs.inner.Readings.{AddsHop, IsBadHop, IsWrongChain, IsWrongHop, IsWrongRow, NamesDue};
 ghost use Rattle.site_records.specs.inner.Said.{said_hop};
 
@@ -11,21 +11,21 @@ use crate::entry_line::MAX_HOPS;
 use crate::first_line::{counted, first_text_line};
 use crate::hop_line::HopLine;
 use address::{Address, Origin};
-use answer_notes::{Given, Hops, Told};
+use answer_notes::{Given, Hops, Received};
 use response_answer::kind_of_fault;
 use response_reader::{SliceWire, read_response};
 use site_inputs::{InputLineFault, read_recorded};
 use std::alloc::{AllocError, Global};
 
 // What these bytes contain as a response.
-pub(crate) fn told_of(alloc: Global, bytes: &[u8]) -> Result<Told, AllocError>
-    ensures { IfOk result (IsToldIn bytes.now) }
+pub(crate) fn read_received(alloc: Global, bytes: &[u8]) -> Result<Received, AllocError>
+    ensures { IfOk result (IsReceivedIn bytes.now) }
 {
     let mut wire = SliceWire::new(bytes);
     match read_response(alloc, &mut wire) {
-        Ok(response) => Ok(Told::Whole(Given::new(response))),
+        Ok(response) => Ok(Received::Whole(Given::new(response))),
         Err(fault) => match kind_of_fault(fault) {
-            Some(kind) => Ok(Told::Fault(kind)),
+            Some(kind) => Ok(Received::Fault(kind)),
             None => Err(AllocError),
         },
     }
@@ -51,7 +51,7 @@ fn take_hop<'a>(
     next: &Option<Address>,
     line: HopLine<'_>,
     behind: &'a [u8],
-) -> Result<(Address, Told, &'a [u8]), InputLineFault>
+) -> Result<(Address, Received, &'a [u8]), InputLineFault>
     ensures { MatchResult result (λ h. AddsHop next.now (said_hop line.entry) behind.now (h.0, h.1) h.2.now) (λ f. IsWrongHop next.now (said_hop line.entry) behind.now f) }
 {
     match line {
@@ -60,12 +60,12 @@ fn take_hop<'a>(
             let Some((bytes, after)) = counted(behind, count) else {
                 return Err(InputLineFault::Line);
             };
-            let told = told_of(alloc, bytes)?;
-            Ok((at, told, after))
+            let received = read_received(alloc, bytes)?;
+            Ok((at, received, after))
         }
         HopLine::Failed(kind, text) => {
             let at = read_due(alloc, next, text)?;
-            Ok((at, Told::Fault(kind), behind))
+            Ok((at, Received::Fault(kind), behind))
         }
     }
 }
@@ -75,7 +75,7 @@ fn read_hop<'a>(
     alloc: Global,
     next: &Option<Address>,
     text: &'a [u8],
-) -> Result<(Address, Told, &'a [u8]), InputLineFault>
+) -> Result<(Address, Received, &'a [u8]), InputLineFault>
     ensures { MatchResult result (λ h. IsHop text.now (h.0, h.1) h.2.now × (next.now ≡ Some h.0)) (λ f. IsBadHop f next.now text.now) }
 {
     let Some((line, behind)) = first_text_line(text) else {
@@ -90,7 +90,7 @@ fn read_hop<'a>(
 /// This many hops, where the chain leads after them, and what follows them in the text.
 #[derive(Drop)]
 struct Row<'a> {
-    hops: Vec<(Address, Told)>,
+    hops: Vec<(Address, Received)>,
     next: Option<Address>,
     rest: &'a [u8],
 }
@@ -110,9 +110,9 @@ fn read_row<'a>(
     let mut rest = text;
     'hops: while hops.len() < count {
         match read_hop(alloc, &next, rest) {
-            Ok((at, told, after)) => {
-                next = told.target(&at)?;
-                hops.push((at, told))?;
+            Ok((at, received, after)) => {
+                next = received.target(&at)?;
+                hops.push((at, received))?;
                 rest = after;
             }
             Err(fault) => return Err(EntryFault::Hop(hops.len(), fault)),

@@ -6,10 +6,10 @@ ghost use Rattle.response_reader.specs.Response.{CanBeGiven};
 ghost use Rattle.response_reader.specs.Written.{head_text, response_text};
 ghost use Rattle.answer_notes.specs.HopChains.{HopValue};
 ghost use Rattle.answer_notes.specs.declared.noted.Noted.TheVariants.{Chain};
-ghost use Rattle.site_records.specs.WrittenEntries.{line_of_three, chain_line, counted_entry, told_head, is_short, told_text, hop_entry, has_short_heads, written_note, IsToldOf, IsNote};
+ghost use Rattle.site_records.specs.WrittenEntries.{line_of_three, chain_line, counted_entry, received_head, is_short, received_text, hop_entry, has_short_heads, written_note, IsReceivedFor, IsNote};
 
 use address::Address;
-use answer_notes::{Given, Hops, Noted, Told};
+use answer_notes::{Given, Hops, Noted, Received};
 use response_reader::{MAX_HEADS, push_head};
 use std::alloc::{AllocError, Global};
 use streams::Pieces;
@@ -34,11 +34,11 @@ fn counted_line(alloc: Global, word: &str, text: &str, count: usize) -> Result<V
 }
 
 // The head that is written of what was received, unless it is too long to be read again.
-fn short_head(alloc: Global, told: &Told) -> Result<Option<Vec<u8>>, AllocError>
-    ensures { IfOk result (λ head. MatchOption head (is_short told.now ≡ false) (λ h. (h.items ≡ told_head told.now) × (is_short told.now ≡ true))) }
+fn short_head(alloc: Global, received: &Received) -> Result<Option<Vec<u8>>, AllocError>
+    ensures { IfOk result (λ head. MatchOption head (is_short received.now ≡ false) (λ h. (h.items ≡ received_head received.now) × (is_short received.now ≡ true))) }
 {
     let mut head = Vec::new(alloc);
-    if let Told::Whole(given) = told {
+    if let Received::Whole(given) = received {
         push_head(&mut head, given.response())?;
     }
     if head.len() > MAX_HEADS {
@@ -71,24 +71,24 @@ fn push_whole<'a>(
 }
 
 // Adds what was received for an address, under the word of a response or of a fault; nothing if it couldn't be read again.
-fn push_told<'a>(
+fn push_received<'a>(
     alloc: Global,
     pieces: &mut Pieces<'a>,
     word: &str,
     fault_word: &str,
     at: &Address,
-    told: &'a Told,
+    received: &'a Received,
 ) -> Result<(), AllocError>
-    ensures text { OnOk result (pieces.new ≡ pieces.old ++ (if is_short told.now then told_text word.now fault_word.now at.now told.now else [])) }
-    ensures told { OnOk result (is_short told.now ≡ true → IsToldOf at.now told.now) }
+    ensures text { OnOk result (pieces.new ≡ pieces.old ++ (if is_short received.now then received_text word.now fault_word.now at.now received.now else [])) }
+    ensures told { OnOk result (is_short received.now ≡ true → IsReceivedFor at.now received.now) }
 {
-    let Some(head) = short_head(alloc, told)? else {
+    let Some(head) = short_head(alloc, received)? else {
         return Ok(());
     };
     let text = at.as_str();
-    match told {
-        Told::Whole(given) => push_whole(alloc, pieces, word, at, given, head.as_slice()),
-        Told::Fault(kind) => {
+    match received {
+        Received::Whole(given) => push_whole(alloc, pieces, word, at, given, head.as_slice()),
+        Received::Fault(kind) => {
             let line = line_of_three(alloc, fault_word, kind.word(), text)?;
             pieces.push_made(line)
         }
@@ -96,7 +96,7 @@ fn push_told<'a>(
 }
 
 // Whether all these hops can be read again.
-fn are_short(alloc: Global, hops: &[(Address, Told)]) -> Result<bool, AllocError>
+fn are_short(alloc: Global, hops: &[(Address, Received)]) -> Result<bool, AllocError>
     ensures { IfOk result (λ b. b ≡ list_all (λ (h : HopValue). is_short h.1) hops.now) }
 {
     for hop in hops {
@@ -111,14 +111,14 @@ fn are_short(alloc: Global, hops: &[(Address, Told)]) -> Result<bool, AllocError
 fn push_hops<'a>(
     alloc: Global,
     pieces: &mut Pieces<'a>,
-    hops: &'a [(Address, Told)],
+    hops: &'a [(Address, Received)],
 ) -> Result<(), AllocError>
     requires { list_all (λ (h : HopValue). is_short h.1) hops.now ≡ true }
     ensures text { OnOk result (pieces.new ≡ pieces.old ++ flat_map hop_entry hops.now) }
-    ensures told { OnOk result (All (λ (h : HopValue). IsToldOf h.0 h.1) hops.now) }
+    ensures told { OnOk result (All (λ (h : HopValue). IsReceivedFor h.0 h.1) hops.now) }
 {
     for hop in hops {
-        push_told(alloc, pieces, "hop", "hopfault", &hop.0, &hop.1)?;
+        push_received(alloc, pieces, "hop", "hopfault", &hop.0, &hop.1)?;
     }
     Ok(())
 }
@@ -157,7 +157,7 @@ pub fn push_note<'a>(
     ensures note { OnOk result (has_short_heads note.now ≡ true → IsNote note.now) }
 {
     match note {
-        Noted::Page(at, told) => push_told(alloc, pieces, "page", "fault", at, told),
+        Noted::Page(at, received) => push_received(alloc, pieces, "page", "fault", at, received),
         Noted::Chain(chain) => push_chain(alloc, pieces, chain),
     }
 }

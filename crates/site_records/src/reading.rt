@@ -17,12 +17,12 @@ use crate::entry_fault::EntryFault;
 use crate::entry_line::EntryLine;
 use crate::first_line::{counted, first_text_line};
 use crate::first_version::{bare_chain, file_chain};
-use crate::hop_row::{read_chain, told_of};
+use crate::hop_row::{read_chain, read_received};
 use crate::recorded_site::Stated;
 use crate::taken::Taken;
 use crate::version::Version;
 use address::{Address, Origin};
-use answer_notes::{Hops, Noted, Told};
+use answer_notes::{Hops, Noted, Received};
 use fetcher::{Answer, Body, FaultKind};
 use html_links::LinkRules;
 use indexmap::{IndexMap, IndexSet};
@@ -58,10 +58,10 @@ impl Drop for RecordReading {
 }
 
 // Whether no response was received.
-fn is_lost(told: &Told) -> bool
-    ensures { result ≡ is_lost told.now }
+fn is_lost(received: &Received) -> bool
+    ensures { result ≡ is_lost received.now }
 {
-    matches!(told, Told::Fault(_))
+    matches!(received, Received::Fault(_))
 }
 
 // Whether none was received for one of these hops.
@@ -76,7 +76,7 @@ fn is_failure(note: &Noted) -> bool
     ensures { result ≡ is_failure note.now }
 {
     match note {
-        Noted::Page(_, told) => is_lost(told),
+        Noted::Page(_, received) => is_lost(received),
         Noted::Chain(hops) => has_lost(hops),
     }
 }
@@ -169,23 +169,23 @@ impl RecordReading {
     }
 
     // Keeps the answer that was received for an address that has none yet. Fails only if memory runs out.
-    fn answer(&mut self, at: &Address, told: &Told) -> Result<(), AllocError>
+    fn answer(&mut self, at: &Address, received: &Received) -> Result<(), AllocError>
         requires { lookup (bytes_eq at.now) self.old.answers.entries ≡ None }
         ensures kept { self.new ≡ record self.old { answers = self.new.answers } }
-        ensures answers { OnOk result (self.new.answers.entries ≡ self.old.answers.entries ++ answers_of (note_entry self.old.links (Page at.now told.now) ∷ [])) }
+        ensures answers { OnOk result (self.new.answers.entries ≡ self.old.answers.entries ++ answers_of (note_entry self.old.links (Page at.now received.now) ∷ [])) }
     {
-        let answer = told.answer(self.alloc, at, self.links)?;
+        let answer = received.answer(self.alloc, at, self.links)?;
         self.answers.insert(at.try_clone()?, answer)?;
         Ok(())
     }
 
     // The same, with a note of it.
-    fn keep(&mut self, at: Address, told: Told) -> Result<(), AllocError>
+    fn keep(&mut self, at: Address, received: Received) -> Result<(), AllocError>
         requires { lookup (bytes_eq at) self.old.answers.entries ≡ None }
-        ensures { OnOk result (KeepsNote self.old (Page at told) self.new) }
+        ensures { OnOk result (KeepsNote self.old (Page at received) self.new) }
     {
-        self.answer(&at, &told)?;
-        self.note(Noted::Page(at, told))
+        self.answer(&at, &received)?;
+        self.note(Noted::Page(at, received))
     }
 
     // Keeps the origin of a chain with the others of which no response was received, if it is one. Fails only if memory runs out.
@@ -225,8 +225,8 @@ impl RecordReading {
         let Some((bytes, after)) = counted(behind, count) else {
             return Err(EntryFault::Own(InputLineFault::Line));
         };
-        let told = told_of(self.alloc, bytes)?;
-        self.keep(at, told)?;
+        let received = read_received(self.alloc, bytes)?;
+        self.keep(at, received)?;
         Ok(Taken { lines: 1, after })
     }
 
@@ -240,7 +240,7 @@ impl RecordReading {
         ensures { TakesEntry self.old (fault kind text.now) behind.now result self.new }
     {
         let at = self.unstated(text)?;
-        self.keep(at, Told::Fault(kind))?;
+        self.keep(at, Received::Fault(kind))?;
         Ok(Taken {
             lines: 1,
             after: behind,

@@ -3,8 +3,8 @@ ghost use Rattle.std.specs.Prelude.{◌≡◌, ◌<◌, ◌++◌, ◌∷◌, [],
 ghost use Rattle.fetcher.specs.Logs.{GainedAtMost};
 ghost use Rattle.fetcher.specs.declared.fetcher.Ask.TheVariants as ask;
 ghost use Rattle.answer_notes.specs.HopChains.{ChainValue, rules_of_hops};
-ghost use Rattle.answer_notes.specs.Tellings.{outcome_told, body_told};
-ghost use Rattle.answer_notes.specs.declared.told.Told.{Told};
+ghost use Rattle.answer_notes.specs.Received.{received_outcome, received_body};
+ghost use Rattle.answer_notes.specs.declared.received.Received.{Received};
 ghost use Rattle.http_fetcher.specs.Fetching.{with_condition};
 ghost use Rattle.http_fetcher.specs.Meanings.{MayAnswer, MayRule};
 ghost use Rattle.response_reader.specs.Limits.{limited};
@@ -15,7 +15,7 @@ ghost use Rattle.tcp_fetcher.specs.TcpFetching.{conditioned, last_loss};
 
 use crate::observed_tcp::ObservedTcp;
 use address::{Address, Origin};
-use answer_notes::{Hops, Telling, Told};
+use answer_notes::{Hops, Received, Receiving};
 use fetcher::{Answer, Ask, Body, Fetcher};
 use html_links::LinkRules;
 use http_fetcher::HttpFetcher;
@@ -208,7 +208,7 @@ impl<'a, R: Net + Wait + Clock + Eprint> OverTcp<'a, R> {
         ensures retries { self.new.retries ≡ self.old.retries }
         ensures limits { self.new.limits ≡ self.old.limits }
     {
-        let hops = retries::tell_hops(&mut self.inner, &self.retries, of)?;
+        let hops = retries::receive_hops(&mut self.inner, &self.retries, of)?;
         self.space_out(&hops)?;
         Ok(hops)
     }
@@ -270,8 +270,8 @@ impl<'a, R: Net + Wait + Clock + Eprint> Fetcher for OverTcp<'a, R> {
         ensures refused { OnErr result (GainedAtMost self.old.asks self.new.asks (ask.Page at.now)) }
         // The network is asked once, or again if that is worth it; what is received last is the answer.
         ensures once { self.old.retries.most ≡ 0 → OnOk result (self.new.single.asks ≡ self.old.single.asks ++ ask.Page at.now ∷ []) }
-        ensures tries { 0 < self.old.retries.most → IfOk result (λ a. (t : Told) × (a.outcome ≡ outcome_told self.old.links at.now t) × (a.body ≡ body_told t)
-            × IsLastOf (λ f. f.asks) last_loss (λ f t. MayAnswer f.links at.now (outcome_told f.links at.now t) (body_told t)) (is_worth self.old.retries) (ask.Page at.now) self.old.retries.most self.old.single self.new.single t) }
+        ensures tries { 0 < self.old.retries.most → IfOk result (λ a. (t : Received) × (a.outcome ≡ received_outcome self.old.links at.now t) × (a.body ≡ received_body t)
+            × IsLastOf (λ f. f.asks) last_loss (λ f t. MayAnswer f.links at.now (received_outcome f.links at.now t) (received_body t)) (is_worth self.old.retries) (ask.Page at.now) self.old.retries.most self.old.single self.new.single t) }
         ensures retries { self.new.retries ≡ self.old.retries }
         ensures limits { self.new.limits ≡ self.old.limits }
     {
@@ -302,26 +302,26 @@ impl<'a, R: Net + Wait + Clock + Eprint> Fetcher for OverTcp<'a, R> {
     }
 }
 
-impl<'a, R: Net + Wait + Clock + Eprint> Telling for OverTcp<'a, R> {
+impl<'a, R: Net + Wait + Clock + Eprint> Receiving for OverTcp<'a, R> {
     ghost links = { λ f. f.links };
 
     fn link_rules(&self) -> LinkRules {
         self.inner.link_rules()
     }
 
-    fn ask_told(&mut self, at: &Address) -> Result<Told, AllocError>
+    fn ask_received(&mut self, at: &Address) -> Result<Received, AllocError>
         ensures site { self.new.links ≡ self.old.links }
         ensures links { self.new.links ≡ self.old.links }
-        ensures told { IfOk result (λ t. MayAnswer self.old.links at.now (outcome_told self.old.links at.now t) (body_told t)) }
+        ensures told { IfOk result (λ t. MayAnswer self.old.links at.now (received_outcome self.old.links at.now t) (received_body t)) }
         ensures asked { OnOk result (self.new.asks ≡ self.old.asks ++ ask.Page at.now ∷ []) }
         ensures refused { OnErr result (GainedAtMost self.old.asks self.new.asks (ask.Page at.now)) }
-        ensures tries { IfOk result (λ t. IsLastOf (λ f. f.asks) last_loss (λ f t. MayAnswer f.links at.now (outcome_told f.links at.now t) (body_told t))
+        ensures tries { IfOk result (λ t. IsLastOf (λ f. f.asks) last_loss (λ f t. MayAnswer f.links at.now (received_outcome f.links at.now t) (received_body t))
             (is_worth self.old.retries) (ask.Page at.now) self.old.retries.most self.old.single self.new.single t) }
         ensures retries { self.new.retries ≡ self.old.retries }
         ensures limits { self.new.limits ≡ self.old.limits }
     {
         self.asks.push(Ask::Page(at.try_clone()?))?;
-        retries::tell(&mut self.inner, &self.retries, at)
+        retries::receive(&mut self.inner, &self.retries, at)
     }
 
     fn ask_hops(&mut self, of: &Origin) -> Result<Hops, AllocError>

@@ -12,7 +12,7 @@ ghost use Rattle.tcp_fetcher.specs.TcpFetching.{last_loss};
 use crate::earlier::{Earlier, IndexNote};
 use crate::over_tcp::OverTcp;
 use address::{Address, Origin};
-use answer_notes::Telling;
+use answer_notes::Receiving;
 use body_digests::{Digested, Digesting};
 use earlier_pages::EarlierPage;
 use early_names::EarlyRules;

@@ -53,8 +53,8 @@ impl<C: Connect> HttpFetcher<C> {
         ensures told { IfOk result (AnsweredWithRetry C.Connect C.Wire.Wire standard self.old self.new at.now) }
         ensures stands { StandsBy C.Connect C.Wire.Wire standard self.old self.new at.now }
     {
-        let told = self.exchange(at)?;
-        let answer = told.into_answer(self.alloc, at, self.links)?;
+        let received = self.exchange(at)?;
+        let answer = received.into_answer(self.alloc, at, self.links)?;
         Ok(answer)
     }
 
@@ -73,9 +73,9 @@ impl<C: Connect> HttpFetcher<C> {
         ensures unnoted { OnErr result (self.new.notes ≡ self.old.notes) }
     {
         let name = at.try_clone()?;
-        let told = self.exchange(at)?;
-        let answer = told.answer(self.alloc, at, self.links)?;
-        self.notes.push(Noted::Page(name, told))?;
+        let received = self.exchange(at)?;
+        let answer = received.answer(self.alloc, at, self.links)?;
+        self.notes.push(Noted::Page(name, received))?;
         Ok(answer)
     }
 }

@@ -40,14 +40,14 @@ impl<C: Connect> HttpFetcher<C> {
         let mut at = of.robots_file()?;
         let mut left = MAX_REDIRECTS;
         'hops: loop {
-            let told = self.exchange(&at)?;
-            match read_hop(alloc, &at, &told, left)? {
+            let received = self.exchange(&at)?;
+            match read_hop(alloc, &at, &received, left)? {
                 Hop::Last(rules) => {
-                    hops.push((at, told))?;
+                    hops.push((at, received))?;
                     return Ok((Hops::new(origin, hops), rules));
                 }
                 Hop::Next(next) => {
-                    hops.push((at, told))?;
+                    hops.push((at, received))?;
                     at = next;
                     left -= 1;
                 }

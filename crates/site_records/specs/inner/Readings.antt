@@ -20,7 +20,7 @@ use Rattle.site_records.specs.declared.entry_fault.EntryFault.TheVariants.{Own, 
 use Rattle.site_records.specs.declared.taken.Taken.{Taken}
 use Rattle.site_records.specs.declared.reading.RecordReading.{RecordReading}
 use Rattle.site_records.specs.EntryLines.{Statement, text_of, HopStatement, hop_text, chain, IsHopCount}
-use Rattle.site_records.specs.Entries.{Entry, answered, ruled, chained, lines_of, States, IsAtRoot, IsRepeated, IsEntry, IsNew, IsMisplaced, IsBadLine, IsBadAddress, IsFormed, HasHopBytes, TellsHop, IsBadHopLine, IsBadHopAddress, IsBadRow, IsBadBehind, LeadsOn}
+use Rattle.site_records.specs.Entries.{Entry, answered, ruled, chained, lines_of, States, IsAtRoot, IsRepeated, IsEntry, IsNew, IsMisplaced, IsBadLine, IsBadAddress, IsFormed, HasHopBytes, ReadsHop, IsBadHopLine, IsBadHopAddress, IsBadRow, IsBadBehind, LeadsOn}
 use Rattle.site_records.specs.Received.{has_lost}
 use Rattle.site_records.specs.Records.{answers_of, rules_of}
 use Rattle.site_records.specs.WrittenEntries.{note_entry}
@@ -113,7 +113,7 @@ pub record AddsHop (lead : Option AddressText) (s : HopStatement) (behind : List
   pub is_named : IsNamed (hop_text s)
   pub at : h.0 ≡ named (hop_text s)
   pub led : lead ≡ Some h.0
-  pub tells : TellsHop s behind h.1 after
+  pub tells : ReadsHop s behind h.1 after
 
 -- what is wrong with the hop that the text begins with, if the chain leads to this address
 abbrev pub IsBadHop : InputLineFault → Option AddressText → List ℕ → Type 0

@@ -14,5 +14,5 @@ AddsNote false links old e new = new ≡ old
 
 -- the note is of no response
 abbrev pub is_failure : Noted → Bool
-is_failure (Page at told) = is_lost told
+is_failure (Page at received) = is_lost received
 is_failure (Chain c) = has_lost c.hops

@@ -19,16 +19,16 @@ hops-preserved c =
     let pushed = c.in_ok-push-in-Ok.ensures.items in
     let h = c.in-Ok.ensures in
     let a = c.in-Ok.at-is in
-    let b = c.in-Ok.told-is in
+    let b = c.in-Ok.received-is in
     let d = c.in-Ok.after-is in
-    let is : IsHop c.hops.rest.now (c.in-Ok.at, c.in-Ok.told) c.in-Ok.after.now × (c.hops.next ≡ Some c.in-Ok.at) = first_of (assumption h, search (rules, h), grind (arith, h, a, b, d)) in
+    let is : IsHop c.hops.rest.now (c.in-Ok.at, c.in-Ok.received) c.in-Ok.after.now × (c.hops.next ≡ Some c.in-Ok.at) = first_of (assumption h, search (rules, h), grind (arith, h, a, b, d)) in
     let long = ap length pushed in
-    let more = length-append c.hops.hops.items ((c.in-Ok.at, c.in-Ok.told) ∷ []) in
+    let more = length-append c.hops.hops.items ((c.in-Ok.at, c.in-Ok.received) ∷ []) in
     let less = c.hops-test.true in
     let len = c.len.ensures in
     record {
       begun = subst (λ l. IsBegun c.args.of.now c.args.text.now l c.in-Ok.after.now) (sym pushed)
-          (row_grows c.args.of.now c.args.text.now c.hops.hops.items c.hops.rest.now (c.in-Ok.at, c.in-Ok.told) c.in-Ok.after.now c.hops.invariant.begun is.0 (sym c.hops.invariant.next ∙ is.1));
-      next = c.in_ok-next-in-Ok.ensures ∙ sym (ap (due (chain_start c.args.of.now)) pushed ∙ due_behind (chain_start c.args.of.now) c.hops.hops.items (c.in-Ok.at, c.in-Ok.told));
+          (row_grows c.args.of.now c.args.text.now c.hops.hops.items c.hops.rest.now (c.in-Ok.at, c.in-Ok.received) c.in-Ok.after.now c.hops.invariant.begun is.0 (sym c.hops.invariant.next ∙ is.1));
+      next = c.in_ok-next-in-Ok.ensures ∙ sym (ap (due (chain_start c.args.of.now)) pushed ∙ due_behind (chain_start c.args.of.now) c.hops.hops.items (c.in-Ok.at, c.in-Ok.received));
       few = omega (arith, long, more, less, len);
     }

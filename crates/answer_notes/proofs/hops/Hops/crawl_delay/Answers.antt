@@ -6,5 +6,5 @@ use Rattle.answer_notes.proofs.hops.Hops.crawl_delay.Goals as goal
 pub returns-in-len1-up : goal.returns-in-len1-up
 returns-in-len1-up c =
     let some = c.in-len1-up.len_at_least in
-    if_ok_map c.delay_told.result _ _ c.delay_told.ensures
-    (λ r e. e ∙ last_delay c.args.self.now.hops c.hops.result.now c.index-told.result c.hops.ensures.value (omega (arith, some)))
+    if_ok_map c.received_delay.result _ _ c.received_delay.ensures
+    (λ r e. e ∙ last_delay c.args.self.now.hops c.hops.result.now c.index-received.result c.hops.ensures.value (omega (arith, some)))

@@ -7,4 +7,4 @@ pub returns-in-len1-up : goal.returns-in-len1-up
 returns-in-len1-up c =
     let some = c.in-len1-up.len_at_least in
     if_ok_map c.rules.result _ _ c.rules.ensures
-    (λ r e. e ∙ last_rules c.args.self.now.hops c.as_slice.result.now c.index-told.result (c.as_slice.ensures.value ∙ ap (λ v. v.hops) c.self.view_is) (omega (arith, some)))
+    (λ r e. e ∙ last_rules c.args.self.now.hops c.as_slice.result.now c.index-received.result (c.as_slice.ensures.value ∙ ap (λ v. v.hops) c.self.view_is) (omega (arith, some)))

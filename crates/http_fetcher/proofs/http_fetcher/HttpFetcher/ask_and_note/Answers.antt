@@ -3,11 +3,11 @@ use Rattle.std.proofs.Common.{◌≡◌, ◌∙◌, ◌≤◌, ◌+◌, ◌++◌
 use Rattle.std.proofs.lemmas.Result.{err_from_is_err_and}
 use Rattle.response_reader.specs.Wire.{counted}
 use Rattle.address.specs.Address.{AddressText}
-use Rattle.answer_notes.specs.Tellings.{outcome_told}
+use Rattle.answer_notes.specs.Received.{received_outcome}
 use Rattle.answer_notes.specs.declared.noted.Noted.TheVariants.{Page}
 use Rattle.response_reader.specs.Limits.{standard}
 use Rattle.http_fetcher.specs.Fetching.{Fetching, StandsBy}
-use Rattle.http_fetcher.proofs.TellingLemmas.{told_by_answer}
+use Rattle.http_fetcher.proofs.ReceivedLemmas.{told_by_answer}
 use Rattle.http_fetcher.proofs.http_fetcher.HttpFetcher.ask_and_note.Goals as goal
 
 pub returns-in_err-name : goal.returns-in_err-name
@@ -27,9 +27,9 @@ returns-in_err-name g c =
       unnoted = refl;
     })
 
-pub returns-in_err-told : goal.returns-in_err-told
-returns-in_err-told g c =
-    let p = err_from_is_err_and c.from_residual-in_err-told.result c.from_residual-in_err-told.ensures.1 in
+pub returns-in_err-received : goal.returns-in_err-received
+returns-in_err-received g c =
+    let p = err_from_is_err_and c.from_residual-in_err-received.result c.from_residual-in_err-received.ensures.1 in
     let after = c.exchange.ensures in
     rw p.1 (record {
       asks = after.asks;
@@ -48,7 +48,7 @@ returns-in_err-told g c =
 pub returns-in_err-answer : goal.returns-in_err-answer
 returns-in_err-answer g c =
     let p = err_from_is_err_and c.from_residual-in_err-answer.result c.from_residual-in_err-answer.ensures.1 in
-    let after = c.in_ok-told.ensures in
+    let after = c.in_ok-received.ensures in
     rw p.1 (record {
       asks = after.asks;
       links = after.links;
@@ -66,7 +66,7 @@ returns-in_err-answer g c =
 pub returns-in_err-push : goal.returns-in_err-push
 returns-in_err-push g c =
     let p = err_from_is_err_and c.from_residual-in_err-push.result c.from_residual-in_err-push.ensures.1 in
-    let after = c.in_ok-told.ensures in
+    let after = c.in_ok-received.ensures in
     rw p.1 (record {
       asks = ap (λ (f : Fetching _). f.asks) c.self.view_is ∙ after.asks;
       links = ap (λ (f : Fetching _). f.links) c.self.view_is ∙ after.links;
@@ -83,8 +83,8 @@ returns-in_err-push g c =
 
 pub returns : goal.returns
 returns g c =
-    let after = c.in_ok-told.ensures in
-    let told = c.in_ok-told.told in
+    let after = c.in_ok-received.ensures in
+    let told = c.in_ok-received.received in
     let links : c.self.inside.links ≡ c.args.self.now.links = ap (λ (f : Fetching _). f.links) c.self.view_is ∙ after.links in
     record {
       asks = ap (λ (f : Fetching _). f.asks) c.self.view_is ∙ after.asks;
@@ -101,7 +101,7 @@ returns g c =
         told,
         c.in_ok-push.ensures.items ∙ ap (λ (at : AddressText). c.self.inside.notes.items ++ Page at told ∷ []) c.in_ok-name.ensures
             ∙ ap (λ ns. ns ++ Page c.args.at.now told ∷ []) (ap (λ (f : Fetching _). f.notes) c.self.view_is ∙ after.notes),
-        c.in_ok-answer.ensures.outcome ∙ ap (λ b. outcome_told b c.args.at.now told) links,
+        c.in_ok-answer.ensures.outcome ∙ ap (λ b. received_outcome b c.args.at.now told) links,
         c.in_ok-answer.ensures.body,
       );
       unnoted = tt;

@@ -1,14 +1,14 @@
 -- After the exchange the fetcher stays as it is.
 use Rattle.std.proofs.Common.{◌≡◌, refl, subst}
 use Rattle.std.proofs.lemmas.Result.{err_from_is_err_and}
-use Rattle.answer_notes.specs.Tellings.{outcome_told}
+use Rattle.answer_notes.specs.Received.{received_outcome}
 use Rattle.response_reader.specs.Limits.{standard}
 use Rattle.http_fetcher.specs.Fetching.{Fetching}
-use Rattle.http_fetcher.proofs.TellingLemmas.{told_by_answer}
+use Rattle.http_fetcher.proofs.ReceivedLemmas.{told_by_answer}
 use Rattle.http_fetcher.proofs.http_fetcher.HttpFetcher.ask_page.Goals as goal
 
-pub returns-in_err-told : goal.returns-in_err-told
-returns-in_err-told g c =
+pub returns-in_err-received : goal.returns-in_err-received
+returns-in_err-received g c =
     let p = err_from_is_err_and c.from_residual.result c.from_residual.ensures.1 in
     let after = c.exchange.ensures in
     rw p.1 (record {
@@ -27,7 +27,7 @@ returns-in_err-told g c =
 pub returns-in_err-answer : goal.returns-in_err-answer
 returns-in_err-answer g c =
     let p = err_from_is_err_and c.from_residual-in_err-answer.result c.from_residual-in_err-answer.ensures.1 in
-    let after = c.in_ok-told.ensures in
+    let after = c.in_ok-received.ensures in
     rw p.1 (record {
       asks = after.asks;
       links = after.links;
@@ -43,7 +43,7 @@ returns-in_err-answer g c =
 
 pub returns : goal.returns
 returns g c =
-    let after = c.in_ok-told.ensures in
+    let after = c.in_ok-received.ensures in
     record {
       asks = after.asks;
       links = after.links;
@@ -53,9 +53,9 @@ returns g c =
       notes = after.notes;
       one = after.one;
       most = after.most;
-      told = told_by_answer g.C.Connect g.C.Wire.Wire standard c.args.self.now c.exchange.new.self c.exchange.new.self c.args.at.now c.in_ok-told.told c.in_ok-answer.answer
+      told = told_by_answer g.C.Connect g.C.Wire.Wire standard c.args.self.now c.exchange.new.self c.exchange.new.self c.args.at.now c.in_ok-received.received c.in_ok-answer.answer
           refl after.links
-          (subst (λ (f : Fetching _). c.in_ok-answer.answer.outcome ≡ outcome_told f.links c.args.at.now c.in_ok-told.told) c.self.view_is c.in_ok-answer.ensures.outcome)
+          (subst (λ (f : Fetching _). c.in_ok-answer.answer.outcome ≡ received_outcome f.links c.args.at.now c.in_ok-received.received) c.self.view_is c.in_ok-answer.ensures.outcome)
           c.in_ok-answer.ensures.body after.told;
       stands = after.stands;
     }

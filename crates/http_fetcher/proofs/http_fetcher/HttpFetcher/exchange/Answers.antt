@@ -4,7 +4,7 @@ use Rattle.std.proofs.lemmas.Result.{err_from_is_err_and}
 use Rattle.std.specs.Prelude.{◌≡◌, ◌≤◌, ◌+◌, OnOk}
 use Rattle.response_reader.specs.Wire.{counted}
 use Rattle.response_reader.specs.Limits.{standard}
-use Rattle.http_fetcher.specs.Fetching.{AnsweredWithRetry, answer_told}
+use Rattle.http_fetcher.specs.Fetching.{AnsweredWithRetry, received_answer}
 use Rattle.http_fetcher.proofs.ExitLemmas.{none_made}
 use Rattle.http_fetcher.proofs.KeptLemmas.{if_ok_on, stands_twice, told_second}
 use Rattle.http_fetcher.proofs.http_fetcher.HttpFetcher.exchange.Goals as goal
@@ -25,9 +25,9 @@ returns-in_err-origin g c =
       stands = λ of wire stood. inl stood;
     })
 
-pub returns-in_err-told : goal.returns-in_err-told
-returns-in_err-told g c =
-    let p = err_from_is_err_and c.from_residual-in_err-told.result c.from_residual-in_err-told.ensures.1 in
+pub returns-in_err-received : goal.returns-in_err-received
+returns-in_err-received g c =
+    let p = err_from_is_err_and c.from_residual-in_err-received.result c.from_residual-in_err-received.ensures.1 in
     let after = c.exchange_on_kept.ensures in
     rw p.1 (record {
       asks = after.asks;
@@ -44,7 +44,7 @@ returns-in_err-told g c =
 
 pub returns-in-Some : goal.returns-in-Some
 returns-in-Some g c =
-    let after = c.in_ok-told.ensures in
+    let after = c.in_ok-received.ensures in
     let told = rw c.in-Some.is at after.told in
     record {
       asks = after.asks;
@@ -62,7 +62,7 @@ returns-in-Some g c =
 pub returns : goal.returns
 returns g c =
     let old = c.args.self.now in
-    let before = c.in_ok-told.ensures in
+    let before = c.in_ok-received.ensures in
     let mid = c.exchange_on_kept.new.self in
     let after = c.exchange_on_new.ensures in
     let new = c.exchange_on_new.new.self in
@@ -76,8 +76,8 @@ returns g c =
       one = λ none. subst (λ n. OnOk c.exchange_on_new.result (g.C.Connect.made new.connect ≡ counted n 1)) before.made after.one;
       most = subst (λ n. g.C.Connect.made new.connect ≤ n + 1) before.made after.most;
       told = if_ok_on c.exchange_on_new.result _ _ _ after.one after.told
-          (λ one t told. subst (λ b. AnsweredWithRetry g.C.Connect g.C.Wire.Wire standard old new c.args.at.now (answer_told b c.args.at.now t)) before.links
-          (told_second g.C.Connect g.C.Wire.Wire standard old mid new c.args.at.now (answer_told mid.links c.args.at.now t) before.made before.refused before.links before.keeps before.sends
+          (λ one t told. subst (λ b. AnsweredWithRetry g.C.Connect g.C.Wire.Wire standard old new c.args.at.now (received_answer b c.args.at.now t)) before.links
+          (told_second g.C.Connect g.C.Wire.Wire standard old mid new c.args.at.now (received_answer mid.links c.args.at.now t) before.made before.refused before.links before.keeps before.sends
           (rw c.in-None.is at before.gives) (rw c.in-None.is at before.silent) after.taken one told));
       stands = stands_twice g.C.Connect g.C.Wire.Wire standard old mid new c.args.at.now before.links before.keeps before.sends before.stands after.stands;
     }

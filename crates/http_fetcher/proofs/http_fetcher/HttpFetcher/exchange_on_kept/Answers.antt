@@ -1,7 +1,7 @@
 -- What is asked over a kept connection changes nothing but what makes the connections.
 use Rattle.std.proofs.Common.{◌≡◌, ◌∙◌, true, inl, inr, refl, sym, ap, subst}
 use Rattle.response_reader.specs.Limits.{standard}
-use Rattle.http_fetcher.specs.Fetching.{Fetching, answer_told}
+use Rattle.http_fetcher.specs.Fetching.{Fetching, received_answer}
 use Rattle.http_fetcher.proofs.KeptLemmas.{stands_by}
 use Rattle.http_fetcher.proofs.http_fetcher.HttpFetcher.exchange_on_kept.Goals as goal
 
@@ -42,7 +42,7 @@ returns-in_default g c =
 pub returns-then-has_given_up : goal.returns-then-has_given_up
 returns-then-has_given_up g c =
     let keeps : c.self.inside.keeps ≡ true = c.if-not-self.false in
-    let now = c.self-in-Ok-Some.view_is ∙ c.told_over_kept.ensures.same in
+    let now = c.self-in-Ok-Some.view_is ∙ c.received_over_kept.ensures.same in
     let closed = c.close.ensures in
     rw (sym c.self.view_is) (record {
       asks = ap (λ (f : Fetching _). f.asks) now;
@@ -61,7 +61,7 @@ returns-then-has_given_up g c =
           c.in-Some.wire,
           c.in-Some.ensures.given,
           inr (
-            answer_told c.self.inside.links c.args.at.now c.in-Ok-Some.received.told,
+            received_answer c.self.inside.links c.args.at.now c.in-Ok-Some.exchange.received,
             sym (c.has_given_up.ensures c.self.inside.links c.args.at.now) ∙ c.if-has_given_up.true,
             rw c.in-Ok-Some.field-0-is at c.in-Ok-Some.ensures.told,
           ),
@@ -75,7 +75,7 @@ pub returns-else-has_given_up : goal.returns-else-has_given_up
 returns-else-has_given_up g c =
     let keeps : c.self.inside.keeps ≡ true = c.if-not-self.false in
     let put = c.put_away.ensures in
-    let same = c.told_over_kept.ensures.same in
+    let same = c.received_over_kept.ensures.same in
     rw (sym c.self.view_is) (record {
       asks = put.asks ∙ ap (λ (f : Fetching _). f.asks) same;
       links = put.links ∙ ap (λ (f : Fetching _). f.links) same;
@@ -95,14 +95,14 @@ returns-else-has_given_up g c =
         (c.in-Some.wire, c.in-Some.ensures.given, rw c.in-Ok-Some.field-0-is at c.in-Ok-Some.ensures.told),
       );
       stands = stands_by g.C.Connect g.C.Wire.Wire standard _ _ _ (record { at = c.args.at.now; links = c.self.inside.links; keeps = c.self.inside.keeps; sends = c.self.inside.sends; limits = standard })
-          _ c.in-Ok-Some.received.reusable c.in-Some.wire c.told_over_kept.new.wire c.requires c.take.ensures.stands
+          _ c.in-Ok-Some.exchange.reusable c.in-Some.wire c.received_over_kept.new.wire c.requires c.take.ensures.stands
           (rw same at put.stands) (rw c.in-Ok-Some.field-0-is at c.in-Ok-Some.ensures.reusable);
     })
 
 pub returns-in-Ok-None : goal.returns-in-Ok-None
 returns-in-Ok-None g c =
     let keeps : c.self.inside.keeps ≡ true = c.if-not-self.false in
-    let now = c.self-in-Ok-None.view_is ∙ c.told_over_kept.ensures.same in
+    let now = c.self-in-Ok-None.view_is ∙ c.received_over_kept.ensures.same in
     let closed = c.close-in-Ok-None.ensures in
     rw (sym c.self.view_is) (record {
       asks = ap (λ (f : Fetching _). f.asks) now;
@@ -125,7 +125,7 @@ returns-in-Ok-None g c =
 
 pub returns-in-Err : goal.returns-in-Err
 returns-in-Err g c =
-    let now = c.self-in-Err.view_is ∙ c.told_over_kept.ensures.same in
+    let now = c.self-in-Err.view_is ∙ c.received_over_kept.ensures.same in
     let closed = c.close-in-Err.ensures in
     rw (sym c.self.view_is) (record {
       asks = ap (λ (f : Fetching _). f.asks) now;

@@ -7,10 +7,10 @@ use Rattle.http_fetcher.proofs.ExitLemmas.{one_made, risen}
 use Rattle.http_fetcher.proofs.KeptLemmas.{stands_by}
 use Rattle.http_fetcher.proofs.http_fetcher.HttpFetcher.exchange_on_new.Goals as goal
 
-pub returns-in-Ok-told_over : goal.returns-in-Ok-told_over
-returns-in-Ok-told_over g c =
+pub returns-in-Ok-received_over : goal.returns-in-Ok-received_over
+returns-in-Ok-received_over g c =
     let put = c.put_away.ensures in
-    let same = c.told_over.ensures.same in
+    let same = c.received_over.ensures.same in
     let one : g.C.Connect.made c.put_away.new.self.connect ≡ counted (g.C.Connect.made c.self.inside.connect) 1 =
     put.made ∙ ap (λ (f : Fetching _). g.C.Connect.made f.connect) same ∙ c.connect.ensures.made in
     rw (sym c.self.view_is) (record {
@@ -23,15 +23,15 @@ returns-in-Ok-told_over g c =
       one = one;
       most = one_made _ _ one;
       taken = put.taken ∙ ap (λ (f : Fetching _). g.C.Connect.taken f.connect) same ∙ c.connect.ensures.taken;
-      told = rw (sym c.requires) (inr (c.in-Ok.wire, c.in-Ok.ensures.given, c.in-Ok-told_over.ensures.told));
+      told = rw (sym c.requires) (inr (c.in-Ok.wire, c.in-Ok.ensures.given, c.in-Ok-received_over.ensures.told));
       stands = stands_by g.C.Connect g.C.Wire.Wire standard _ _ _ (record { at = c.args.at.now; links = c.self.inside.links; keeps = c.self.inside.keeps; sends = c.self.inside.sends; limits = standard })
-          _ c.in-Ok-told_over.received.reusable c.in-Ok.wire c.told_over.new.wire c.requires c.in-Ok.ensures.stands
-          (rw same at put.stands) c.in-Ok-told_over.ensures.reusable;
+          _ c.in-Ok-received_over.exchange.reusable c.in-Ok.wire c.received_over.new.wire c.requires c.in-Ok.ensures.stands
+          (rw same at put.stands) c.in-Ok-received_over.ensures.reusable;
     })
 
 pub returns-in-Err : goal.returns-in-Err
 returns-in-Err g c =
-    let now = c.self-in-Err.view_is ∙ c.told_over.ensures.same in
+    let now = c.self-in-Err.view_is ∙ c.received_over.ensures.same in
     let closed = c.close.ensures in
     let one : g.C.Connect.made c.close.new.self ≡ counted (g.C.Connect.made c.self.inside.connect) 1 =
     closed.made ∙ ap (λ (f : Fetching _). g.C.Connect.made f.connect) now ∙ c.connect.ensures.made in

@@ -10,7 +10,7 @@ use Rattle.http_fetcher.proofs.http_fetcher.HttpFetcher.follow.Given as goal
 
 abbrev pub invariant-hops : goal.invariant-hops
 invariant-hops g l =
-    let Told = IsGiven g.C.Connect g.C.Wire.Wire standard l.fn.self in record {
+    let Says = IsGiven g.C.Connect g.C.Wire.Wire standard l.fn.self in record {
       asks : l.self.asks ≡ l.fn.self.asks;
       links : l.self.links ≡ l.fn.self.links;
       keeps : l.self.keeps ≡ l.fn.self.keeps;
@@ -22,7 +22,7 @@ invariant-hops g l =
       count : l.fn.self.keeps ≡ false → g.C.Connect.made l.self.connect ≡ counted (g.C.Connect.made l.fn.self.connect) (length l.hops.items);
       few : g.C.Connect.made l.self.connect + l.left ≤ g.C.Connect.made l.fn.self.connect + max_redirects;
       stands : StandsBehind g.C.Connect g.C.Wire.Wire standard l.fn.self l.self;
-      chain : (r : RuleSetValue) → IsChain Told l.left l.at r → IsChain Told max_redirects (l.fn.of ++ codes "/robots.txt") r;
+      chain : (r : RuleSetValue) → IsChain Says l.left l.at r → IsChain Says max_redirects (l.fn.of ++ codes "/robots.txt") r;
       admitted : (tail : List HopValue) → AreHops l.left l.at tail → IsAdmitted l.fn.of (l.hops.items ++ tail);
     }
 

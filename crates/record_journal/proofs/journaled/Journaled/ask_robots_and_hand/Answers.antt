@@ -13,7 +13,7 @@ returns-in_err-hops g c =
     let view = c.self.view_is in
     record {
       site = c.ask_hops.ensures.site ∙ ap (λ (f : Journaling _ _). g.F.Fetcher.site f.inner) view;
-      links = c.ask_hops.ensures.links ∙ ap (λ (f : Journaling _ _). g.F.Telling.links f.inner) view;
+      links = c.ask_hops.ensures.links ∙ ap (λ (f : Journaling _ _). g.F.Receiving.links f.inner) view;
       is_recording = ap (λ (f : Journaling _ _). f.is_recording) view;
       told = IfOk-from_err _ _ failed;
       asked = IfOk-from_err _ _ failed;
@@ -29,7 +29,7 @@ returns-in_err-rules g c =
     let view = c.self.view_is in
     record {
       site = c.ask_hops.ensures.site ∙ ap (λ (f : Journaling _ _). g.F.Fetcher.site f.inner) view;
-      links = c.ask_hops.ensures.links ∙ ap (λ (f : Journaling _ _). g.F.Telling.links f.inner) view;
+      links = c.ask_hops.ensures.links ∙ ap (λ (f : Journaling _ _). g.F.Receiving.links f.inner) view;
       is_recording = ap (λ (f : Journaling _ _). f.is_recording) view;
       told = IfOk-from_err _ _ failed;
       asked = IfOk-from_err _ _ failed;
@@ -46,7 +46,7 @@ returns-in_err-hand g c =
     let inner = c.hand.ensures.inner in
     record {
       site = ap g.F.Fetcher.site inner ∙ c.ask_hops.ensures.site ∙ ap (λ (f : Journaling _ _). g.F.Fetcher.site f.inner) view;
-      links = ap g.F.Telling.links inner ∙ c.ask_hops.ensures.links ∙ ap (λ (f : Journaling _ _). g.F.Telling.links f.inner) view;
+      links = ap g.F.Receiving.links inner ∙ c.ask_hops.ensures.links ∙ ap (λ (f : Journaling _ _). g.F.Receiving.links f.inner) view;
       is_recording = c.hand.ensures.is_recording ∙ ap (λ (f : Journaling _ _). f.is_recording) view;
       told = IfOk-from_err _ _ failed;
       asked = IfOk-from_err _ _ failed;
@@ -68,7 +68,7 @@ returns g c =
     let site = ap (λ (f : Journaling _ _). g.F.Fetcher.site f.inner) view in
     record {
       site = ap g.F.Fetcher.site inner ∙ c.ask_hops.ensures.site ∙ site;
-      links = ap g.F.Telling.links inner ∙ c.ask_hops.ensures.links ∙ ap (λ (f : Journaling _ _). g.F.Telling.links f.inner) view;
+      links = ap g.F.Receiving.links inner ∙ c.ask_hops.ensures.links ∙ ap (λ (f : Journaling _ _). g.F.Receiving.links f.inner) view;
       is_recording = c.hand.ensures.is_recording ∙ ap (λ (f : Journaling _ _). f.is_recording) view;
       told = subst (λ s. g.F.Fetcher.rules s c.args.of.now c.in_ok-rules.rules) site (subst (g.F.Fetcher.rules (g.F.Fetcher.site c.self.inside.inner) c.args.of.now) (sym rules) c.in_ok-hops.ensures.told);
       asked = ap g.F.Fetcher.log inner ∙ c.in_ok-hops.ensures.asked ∙ ap (λ (f : Journaling _ _). g.F.Fetcher.log f.inner ++ ask.Rules c.args.of.now ∷ []) view;

@@ -1,7 +1,7 @@
 -- A fault goes after the other answers.
 use Rattle.std.proofs.Common.{refl}
 use Rattle.std.proofs.lemmas.Result.{err_from_is_err_and}
-use Rattle.answer_notes.specs.declared.told.Told.TheVariants.{Fault}
+use Rattle.answer_notes.specs.declared.received.Received.TheVariants.{Fault}
 use Rattle.answer_notes.specs.declared.noted.Noted.TheVariants.{Page}
 use Rattle.site_records.specs.EntryLines.{fault}
 use Rattle.site_records.specs.WrittenEntries.{note_entry}

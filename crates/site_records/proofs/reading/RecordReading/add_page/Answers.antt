@@ -17,9 +17,9 @@ returns-in_err-at c =
 pub returns-in_default : goal.returns-in_default
 returns-in_default c = without_bytes c.args.self.now (page c.args.text.now c.args.count) c.args.behind.now c.in_ok-at.ensures.0 c.in_default.ensures
 
-pub returns-in_err-told : goal.returns-in_err-told
-returns-in_err-told c =
-    let p = err_from_is_err_and c.from_residual-in_err-told.result c.from_residual-in_err-told.ensures.1 in
+pub returns-in_err-received : goal.returns-in_err-received
+returns-in_err-received c =
+    let p = err_from_is_err_and c.from_residual-in_err-received.result c.from_residual-in_err-received.ensures.1 in
     rw (p.1, p.2) tt
 
 pub returns-in_err-keep : goal.returns-in_err-keep
@@ -35,7 +35,7 @@ returns c =
     let has : HasBytes c.args.behind.now c.args.count c.in-Some.bytes.now c.in-Some.after.now = first_of (assumption h, search (rules, h), grind (arith, h, a, b)) in
     let (named, same, _) = c.in_ok-at.ensures in
     let at = c.in_ok-at.at in
-    let told = c.in_ok-told.told in
+    let told = c.in_ok-received.received in
     takes c.args.self.now c.keep.new.self (page c.args.text.now c.args.count) c.args.behind.now _ (note_entry c.args.self.now.links (Page at told)) named tt
-    (page_states c.args.self.now.links c.args.text.now c.args.count c.args.behind.now c.in-Some.bytes.now c.in-Some.after.now at _ has (read_as_told c.args.self.now.links at c.in-Some.bytes.now told c.in_ok-told.ensures) same)
+    (page_states c.args.self.now.links c.args.text.now c.args.count c.args.behind.now c.in-Some.bytes.now c.in-Some.after.now at _ has (read_as_told c.args.self.now.links at c.in-Some.bytes.now told c.in_ok-received.ensures) same)
     c.in_ok-keep.ensures refl

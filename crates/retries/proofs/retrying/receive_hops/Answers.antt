@@ -5,7 +5,7 @@ use Rattle.answer_notes.specs.HopChains.{rules_of_hops}
 use Rattle.pacing.specs.Retries.{retries_by}
 use Rattle.retries.specs.Worth.{is_worth_hops}
 use Rattle.retries.proofs.TryLaws.{ends, first, goes_on, stops}
-use Rattle.retries.proofs.retrying.tell_hops.Goals as goal
+use Rattle.retries.proofs.retrying.receive_hops.Goals as goal
 
 pub loop-made-init : goal.loop-made-init
 loop-made-init g c = record {

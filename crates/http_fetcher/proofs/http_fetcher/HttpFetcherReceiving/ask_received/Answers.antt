@@ -5,10 +5,10 @@ use Rattle.response_answer.proofs.DigestLemmas.{if_ok_map}
 use Rattle.address.specs.Address.{AddressText}
 use Rattle.fetcher.specs.declared.fetcher.Ask.TheVariants.{Page}
 use Rattle.response_reader.specs.Limits.{standard}
-use Rattle.http_fetcher.specs.Fetching.{Fetching, answer_told}
+use Rattle.http_fetcher.specs.Fetching.{Fetching, received_answer}
 use Rattle.http_fetcher.proofs.ExitLemmas.{on_ok, on_err}
 use Rattle.http_fetcher.proofs.MeaningLaws.{may_answer}
-use Rattle.http_fetcher.proofs.http_fetcher.HttpFetcherTelling.ask_told.Goals as goal
+use Rattle.http_fetcher.proofs.http_fetcher.HttpFetcherReceiving.ask_received.Goals as goal
 
 pub returns-in_err-try_clone : goal.returns-in_err-try_clone
 returns-in_err-try_clone g c =
@@ -66,7 +66,7 @@ returns g c =
       told = rw (sym c.self.view_is) after.told;
       stands = rw (sym c.self.view_is) after.stands;
       may = if_ok_map c.exchange.result _ _ after.told
-          (λ t told. may_answer g.C.Connect g.C.Wire.Wire standard c.args.self.now c.exchange.new.self c.args.at.now (answer_told c.args.self.now.links c.args.at.now t) (rw (sym c.self.view_is) told));
+          (λ t told. may_answer g.C.Connect g.C.Wire.Wire standard c.args.self.now c.exchange.new.self c.args.at.now (received_answer c.args.self.now.links c.args.at.now t) (rw (sym c.self.view_is) told));
       is_recording = after.is_recording ∙ ap (λ (f : Fetching _). f.is_recording) c.self.view_is;
       notes = after.notes ∙ ap (λ (f : Fetching _). f.notes) c.self.view_is;
     }

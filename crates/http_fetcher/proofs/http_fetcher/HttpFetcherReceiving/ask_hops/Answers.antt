@@ -6,8 +6,8 @@ use Rattle.fetcher.specs.declared.fetcher.Ask.TheVariants.{Rules}
 use Rattle.response_reader.specs.Limits.{standard}
 use Rattle.http_fetcher.specs.Fetching.{Fetching}
 use Rattle.http_fetcher.proofs.MeaningLaws.{may_rule}
-use Rattle.http_fetcher.proofs.http_fetcher.HttpFetcherTelling.ask_hops.Goals as goal
-use Rattle.http_fetcher.proofs.http_fetcher.HttpFetcherTelling.ask_hops.Goals.{In_ok-push}
+use Rattle.http_fetcher.proofs.http_fetcher.HttpFetcherReceiving.ask_hops.Goals as goal
+use Rattle.http_fetcher.proofs.http_fetcher.HttpFetcherReceiving.ask_hops.Goals.{In_ok-push}
 
 -- The ask is logged.
 logged : (g : _) → (c : In_ok-push g) → c.push.new.self.items ≡ c.args.self.now.asks ++ Rules c.args.of.now ∷ []

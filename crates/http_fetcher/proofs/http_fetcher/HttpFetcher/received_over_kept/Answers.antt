@@ -1,6 +1,6 @@
 use Rattle.std.proofs.Common.{inr}
 use Rattle.http_fetcher.proofs.KeptLemmas.{if_ok_some_map}
-use Rattle.http_fetcher.proofs.http_fetcher.HttpFetcher.told_over_kept.Goals as goal
+use Rattle.http_fetcher.proofs.http_fetcher.HttpFetcher.received_over_kept.Goals as goal
 
 pub returns-in-Ok-clause-told : goal.returns-in-Ok-clause-told
 returns-in-Ok-clause-told g c =

@@ -1,6 +1,6 @@
 //! What was received for an address, in a form that can be written down: a whole response, or why there is none.
 ghost use Rattle.std.specs.Prelude.{◌≡◌, IfOk, Some, None};
-ghost use Rattle.answer_notes.specs.Tellings.{outcome_told, body_told, target_told, rules_told};
+ghost use Rattle.answer_notes.specs.Received.{received_outcome, received_body, received_target, received_rules};
 
 use crate::given::Given;
 use crate::robots_answer::rules_by_status;
@@ -13,14 +13,14 @@ use std::alloc::{AllocError, Global};
 
 /// What was received for an address.
 #[derive(Drop)]
-pub enum Told {
+pub enum Received {
     /// A whole response.
     Whole(Given),
     /// No response, and why.
     Fault(FaultKind),
 }
 
-impl Told {
+impl Received {
     ghost use Rattle.std.specs.Prelude.{◌≡◌, IfOk};
 
     /// What it answers for the address that was asked. Of the links of a page those are edges that `links` takes.
@@ -31,12 +31,12 @@ impl Told {
         at: &Address,
         links: LinkRules,
     ) -> Result<Answer<Body>, AllocError>
-        ensures outcome { IfOk result (λ a. a.outcome ≡ outcome_told links at.now self.now) }
-        ensures body { IfOk result (λ a. a.body ≡ body_told self.now) }
+        ensures outcome { IfOk result (λ a. a.outcome ≡ received_outcome links at.now self.now) }
+        ensures body { IfOk result (λ a. a.body ≡ received_body self.now) }
     {
         match self {
-            Told::Whole(given) => digest(alloc, at, given.response(), links),
-            Told::Fault(kind) => Ok(Answer {
+            Received::Whole(given) => digest(alloc, at, given.response(), links),
+            Received::Fault(kind) => Ok(Answer {
                 outcome: Outcome::Fault(*kind),
                 body: Body::none(alloc),
             }),
@@ -50,12 +50,12 @@ impl Told {
         at: &Address,
         links: LinkRules,
     ) -> Result<Answer<Body>, AllocError>
-        ensures outcome { IfOk result (λ a. a.outcome ≡ outcome_told links at.now self) }
-        ensures body { IfOk result (λ a. a.body ≡ body_told self) }
+        ensures outcome { IfOk result (λ a. a.outcome ≡ received_outcome links at.now self) }
+        ensures body { IfOk result (λ a. a.body ≡ received_body self) }
     {
         match self {
-            Told::Whole(given) => into_answer(alloc, at, given.into_response(), links),
-            Told::Fault(kind) => Ok(Answer {
+            Received::Whole(given) => into_answer(alloc, at, given.into_response(), links),
+            Received::Fault(kind) => Ok(Answer {
                 outcome: Outcome::Fault(kind),
                 body: Body::none(alloc),
             }),
@@ -64,25 +64,25 @@ impl Told {
 
     /// The target of its redirect from the address that was asked, if any. Fails only if memory runs out.
     pub fn target(&self, at: &Address) -> Result<Option<Address>, AllocError>
-        ensures { IfOk result (λ target. target ≡ target_told at.now self.now) }
+        ensures { IfOk result (λ target. target ≡ received_target at.now self.now) }
     {
         match self {
-            Told::Whole(given) => redirect_target(at, given.response()),
-            Told::Fault(_) => Ok(None),
+            Received::Whole(given) => redirect_target(at, given.response()),
+            Received::Fault(_) => Ok(None),
         }
     }
 
     /// The rules of an origin whose robots file it is, if no redirect is followed any more (RFC 9309, section 2.3.1). Fails
     /// only if memory runs out.
     pub fn rules(&self, alloc: Global) -> Result<RuleSet, AllocError>
-        ensures { IfOk result (λ rules. rules ≡ rules_told self.now) }
+        ensures { IfOk result (λ rules. rules ≡ received_rules self.now) }
     {
         match self {
-            Told::Whole(given) => {
+            Received::Whole(given) => {
                 let response = given.response();
                 rules_by_status(alloc, response.status, response.body.as_slice())
             }
-            Told::Fault(_) => Ok(RuleSet::none()),
+            Received::Fault(_) => Ok(RuleSet::none()),
         }
     }
 }

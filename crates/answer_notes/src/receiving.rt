@@ -3,11 +3,11 @@ ghost use Rattle.std.specs.Prelude.{◌≡◌, ◌∷◌, ◌++◌, [], IfOk, On
 ghost use Rattle.html_links.specs.declared.rules.LinkRules.{LinkRules};
 ghost use Rattle.fetcher.specs.declared.fetcher.Ask.TheVariants as ask;
 ghost use Rattle.fetcher.specs.Logs.{GainedAtMost};
-ghost use Rattle.answer_notes.specs.Tellings.{outcome_told, body_told};
+ghost use Rattle.answer_notes.specs.Received.{received_outcome, received_body};
 ghost use Rattle.answer_notes.specs.HopChains.{rules_of_hops};
 
 use crate::hops::Hops;
-use crate::told::Told;
+use crate::received::Received;
 use address::{Address, Origin};
 use fetcher::{Body, Fetcher};
 use html_links::LinkRules;
@@ -15,7 +15,7 @@ use std::alloc::AllocError;
 
 /// Asks as any fetcher does, and hands out what was received instead of its answer. The caller makes the answer of it, and may
 /// keep it.
-pub trait Telling: Fetcher<Body = Body> {
+pub trait Receiving: Fetcher<Body = Body> {
     /// Which links of pages are taken.
     ghost links: { Self → LinkRules };
 
@@ -24,10 +24,10 @@ pub trait Telling: Fetcher<Body = Body> {
         ensures { result ≡ links self.now };
 
     /// Requests the page of an address. What is received answers as the site may; all else is as of [`Fetcher::ask`].
-    fn ask_told(&mut self, at: &Address) -> Result<Told, AllocError>
+    fn ask_received(&mut self, at: &Address) -> Result<Received, AllocError>
         ensures site { Self.site self.new ≡ Self.site self.old }
         ensures links { links self.new ≡ links self.old }
-        ensures told { IfOk result (λ t. Self.says (Self.site self.old) at.now (outcome_told (links self.old) at.now t) (body_told t)) }
+        ensures told { IfOk result (λ t. Self.says (Self.site self.old) at.now (received_outcome (links self.old) at.now t) (received_body t)) }
         ensures asked { OnOk result (Self.log self.new ≡ Self.log self.old ++ ask.Page at.now ∷ []) }
         ensures refused { OnErr result (GainedAtMost (Self.log self.old) (Self.log self.new) (ask.Page at.now)) };
 

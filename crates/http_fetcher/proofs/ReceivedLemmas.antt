@@ -12,15 +12,15 @@ use Rattle.fetcher.specs.declared.answer.Answer.{Answer}
 use Rattle.fetcher.specs.Statuses.{is_redirect, is_successful}
 use Rattle.response_answer.specs.Digests.{is_document, is_sheet, digest_of, kept_body, target_of, page_or_leaf, sheet_or_leaf}
 use Rattle.answer_notes.specs.RobotsAnswers.{all_allowed, rules_by_status}
-use Rattle.answer_notes.specs.Tellings.{outcome_told, body_told}
-use Rattle.answer_notes.specs.declared.told.Told.{Told}
-use Rattle.answer_notes.specs.declared.told.Told.TheVariants.{Whole, Fault}
+use Rattle.answer_notes.specs.Received.{received_outcome, received_body}
+use Rattle.answer_notes.specs.declared.received.Received.{Received}
+use Rattle.answer_notes.specs.declared.received.Received.TheVariants.{Whole, Fault}
 use Rattle.connect.specs.declared.connect.Connect.{Ghosts as Connects}
 use Rattle.http_fetcher.specs.declared.chain.Hop.{Hop}
 use Rattle.http_fetcher.specs.declared.chain.Hop.TheVariants.{Next, Last}
 use Rattle.http_fetcher.specs.Chains.{SaysHop}
-use Rattle.http_fetcher.specs.inner.Chains.{IsHopTold}
-use Rattle.http_fetcher.specs.Fetching.{AnsweredWithRetry, Fetching, answer_told}
+use Rattle.http_fetcher.specs.inner.Chains.{IsHopReceived}
+use Rattle.http_fetcher.specs.Fetching.{AnsweredWithRetry, Fetching, received_answer}
 use Rattle.html_links.specs.declared.rules.LinkRules.{LinkRules}
 
 or_split : (x y : Bool) → (x || y) ≡ true → (x ≡ true) ⊎ (y ≡ true)
@@ -85,7 +85,7 @@ plain_says links at r left rules is = by (is_document r.head) refl
 
 -- what a whole response says of a hop
 whole_says : (links : LinkRules) (at : AddressText) (r : ResponseParts) (left : ℕ) (hop : Hop) (target : Option AddressText) → target_of at r.head ≡ target
-    → IsHopTold at (Whole r) left hop → SaysHop (digest_of links at r) (kept_body r.head.status r.body) left hop
+    → IsHopReceived at (Whole r) left hop → SaysHop (digest_of links at r) (kept_body r.head.status r.body) left hop
 whole_says links at r left (Next next) None is h = let some = h.1 in absurd cc
 whole_says links at r left (Next next) (Some target) is h = let some = h.1 in rw is (h.0, cc)
 whole_says links at r left (Last rules) None is h = rw is (plain_says links at r left rules h.1)
@@ -93,19 +93,19 @@ whole_says links at r zero (Last rules) (Some target) is h = rw is (refl, h.1 �
 whole_says links at r (suc left) (Last rules) (Some target) is h = let none = h.0 in absurd cc
 
 -- what was received for an address says of a hop what its answer says
-pub tells_says : (links : LinkRules) (at : AddressText) (told : Told) (left : ℕ) (hop : Hop) → IsHopTold at told left hop
-    → SaysHop (outcome_told links at told) (body_told told).bytes left hop
+pub tells_says : (links : LinkRules) (at : AddressText) (told : Received) (left : ℕ) (hop : Hop) → IsHopReceived at told left hop
+    → SaysHop (received_outcome links at told) (received_body told).bytes left hop
 tells_says links at (Whole r) left hop h = whole_says links at r left hop (target_of at r.head) refl h
 tells_says links at (Fault kind) left (Next next) h = let some = h.1 in absurd cc
 tells_says links at (Fault kind) left (Last rules) h = (tt, h.1)
 
 -- what was received says this of the hop that it was read as
-pub tells_of : (at : AddressText) (told : Told) (left : ℕ) (hop read : Hop) → hop ≡ read → IsHopTold at told left hop → IsHopTold at told left read
-tells_of at told left hop read is tells = subst (λ h. IsHopTold at told left h) is tells
+pub tells_of : (at : AddressText) (told : Received) (left : ℕ) (hop read : Hop) → hop ≡ read → IsHopReceived at told left hop → IsHopReceived at told left read
+tells_of at told left hop read is tells = subst (λ h. IsHopReceived at told left h) is tells
 
 -- an answer that says what was received over a connection was received over it
-pub told_by_answer : {C W : Type 0} (connects : Connects C W) (wires : Wires W) (limits : Limited) (old now new : Fetching C) (at : AddressText) (told : Told) (answer : Answer BodyValue)
-    → now ≡ new → new.links ≡ old.links → answer.outcome ≡ outcome_told now.links at told → answer.body ≡ body_told told
-    → AnsweredWithRetry connects wires limits old new at (answer_told old.links at told) → AnsweredWithRetry connects wires limits old now at answer
+pub told_by_answer : {C W : Type 0} (connects : Connects C W) (wires : Wires W) (limits : Limited) (old now new : Fetching C) (at : AddressText) (told : Received) (answer : Answer BodyValue)
+    → now ≡ new → new.links ≡ old.links → answer.outcome ≡ received_outcome now.links at told → answer.body ≡ received_body told
+    → AnsweredWithRetry connects wires limits old new at (received_answer old.links at told) → AnsweredWithRetry connects wires limits old now at answer
 told_by_answer connects wires limits old now new at told answer same is outcome_is body_is h =
     rw (outcome_is, body_is, same, is) h
