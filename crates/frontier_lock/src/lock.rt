@@ -169,7 +169,7 @@ fn exchange(core: &mut Frontier, worker: u32, done: Done) -> Result<Work, Refuse
 // Exchanges an answer for work, and says whether all who sleep are to be woken. They went to sleep while the frontier
 // was busy; as long as it is busy whenever the lock is released, they have nothing to do. So an exchange wakes them
 // if it finds it busy and leaves it otherwise: with work, quiet or stopped. So does each other call that can end a wait.
-fn exchange_and_tell(core: &mut Frontier, worker: u32, done: Done) -> (Result<Work, Refused>, bool)
+fn exchange_waking(core: &mut Frontier, worker: u32, done: Done) -> (Result<Work, Refused>, bool)
     ensures work { IfOk result.0 (IsFor worker) }
     ensures steps { IfOk result.0 (λ work. Exchanges core.old done worker work core.new) }
     ensures same { OnErr result.0 (core.new ≡ core.old) }
@@ -184,9 +184,9 @@ fn exchange_and_tell(core: &mut Frontier, worker: u32, done: Done) -> (Result<Wo
     (answer, was_busy && !core.is_busy())
 }
 
-// Has the edges of a page's outcome share the texts of held addresses, and exchanges a copy of it, like `exchange_and_tell`.
+// Has the edges of a page's outcome share the texts of held addresses, and exchanges a copy of it, like `exchange_waking`.
 // The copy comes after that, since a list with one owner alone can be written to.
-fn answer_and_tell(
+fn answer_waking(
     core: &mut Frontier,
     worker: u32,
     permit: Permit,
@@ -206,7 +206,7 @@ fn answer_and_tell(
         let fault = AnswerFault::Memory;
         return (Err(Unanswered { permit, fault }), false);
     };
-    let (answer, wakes) = exchange_and_tell(core, worker, Done::Page(permit, copy));
+    let (answer, wakes) = exchange_waking(core, worker, Done::Page(permit, copy));
     match answer {
         Ok(work) => (Ok(work), wakes),
         Err(Refused { done, fault }) => match done {
@@ -234,21 +234,21 @@ fn can_end_waits(core: &Frontier, lines: usize) -> bool
 
 // Makes a step of the frontier, and says whether all who sleep are to be woken: if it is one that can end a wait. If
 // somebody may be asleep and it says no, nothing changed.
-fn make<A, T, S: FnOnce(&mut Frontier, A) -> T>(core: &mut Frontier, step: S, told: A) -> (T, bool)
+fn make<A, T, S: FnOnce(&mut Frontier, A) -> T>(core: &mut Frontier, step: S, input: A) -> (T, bool)
     requires call { S.IsAlwaysCallable step }
-    requires one { IsOneStep S.FnOnce step told }
-    ensures made { IsMadeBy S.FnOnce step told core.old result.0 core.new }
+    requires one { IsOneStep S.FnOnce step input }
+    ensures made { IsMadeBy S.FnOnce step input core.old result.0 core.new }
     ensures exact { (action : Action) → Makes core.old action core.new → result.1 ≡ ends_waits action }
     ensures woken { IsSleptAt core.old → result.1 ≡ false → core.new ≡ core.old }
 {
     let lines = core.trace().len();
-    let answer = step(core, told);
+    let answer = step(core, input);
     let wakes = can_end_waits(core, lines);
     (answer, wakes)
 }
 
 impl<'a, O: Observer> FrontierLock<'a, O> {
-    /// Shares a frontier. Each call tells the observer how many addresses wait after it, counted like `Frontier::waiting`, with
+    /// Shares a frontier. Each call reports to the observer how many addresses wait after it, counted like `Frontier::waiting`, with
     /// the lock held, so that the last number is the newest. Takes no memory.
     pub fn new(core: Frontier, observer: &'a O) -> Self {
         FrontierLock {
@@ -276,7 +276,7 @@ impl<'a, O: Observer> FrontierLock<'a, O> {
             match take(&mut core, worker) {
                 Ok(Work::Busy) => core = self.work_available.wait(rt, core),
                 other => {
-                    self.tell_waiting(&core);
+                    self.report_waiting(&core);
                     return other;
                 }
             }
@@ -308,9 +308,9 @@ impl<'a, O: Observer> FrontierLock<'a, O> {
     {
         let (answer, wakes) = {
             let mut core = self.core.lock(rt);
-            let told = exchange_and_tell(&mut core, worker, done);
-            self.tell_waiting(&core);
-            told
+            let made = exchange_waking(&mut core, worker, done);
+            self.report_waiting(&core);
+            made
         };
         if wakes {
             self.work_available.notify_all();
@@ -334,9 +334,9 @@ impl<'a, O: Observer> FrontierLock<'a, O> {
     {
         let (answer, wakes) = {
             let mut core = self.core.lock(rt);
-            let told = answer_and_tell(&mut core, worker, permit, outcome);
-            self.tell_waiting(&core);
-            told
+            let made = answer_waking(&mut core, worker, permit, outcome);
+            self.report_waiting(&core);
+            made
         };
         if wakes {
             self.work_available.notify_all();
@@ -354,17 +354,17 @@ impl<'a, O: Observer> FrontierLock<'a, O> {
         )
     }
 
-    // Makes one locked step, tells how many addresses wait, and wakes all who sleep, with the lock free again, if it says so.
+    // Makes one locked step, reports how many addresses wait, and wakes all who sleep, with the lock free again, if it says so.
     // Whom this wakes no clause can say.
-    fn step<R: Wait, A, T, S: FnOnce(&mut Frontier, A) -> T>(&self, rt: &R, step: S, told: A) -> T
+    fn step<R: Wait, A, T, S: FnOnce(&mut Frontier, A) -> T>(&self, rt: &R, step: S, input: A) -> T
         requires call { S.IsAlwaysCallable step }
-        requires one { IsOneStep S.FnOnce step told }
-        ensures { (old : Traced) × (new : Traced) × IsMadeBy S.FnOnce step told old result new }
+        requires one { IsOneStep S.FnOnce step input }
+        ensures { (old : Traced) × (new : Traced) × IsMadeBy S.FnOnce step input old result new }
     {
         let (answer, wakes) = {
             let mut core = self.core.lock(rt);
-            let made = make(&mut core, step, told);
-            self.tell_waiting(&core);
+            let made = make(&mut core, step, input);
+            self.report_waiting(&core);
             made
         };
         if wakes {
@@ -373,8 +373,8 @@ impl<'a, O: Observer> FrontierLock<'a, O> {
         answer
     }
 
-    // Tells the observer how many addresses wait.
-    fn tell_waiting(&self, core: &Frontier) {
+    // Reports to the observer how many addresses wait.
+    fn report_waiting(&self, core: &Frontier) {
         self.observer.waiting(core.waiting());
     }
 

@@ -1,7 +1,7 @@
 use Rattle.std.proofs.Common.{◌≡◌, ◌∙◌, false, true, sym}
 use Rattle.frontier_lock.proofs.Waits.{slept_if, woken_unless, asleep_still, none_woken}
-use Rattle.frontier_lock.proofs.lock.exchange_and_tell.Goals as goal
-use Rattle.frontier_lock.proofs.lock.exchange_and_tell.Goals.{then-was_busy, else-was_busy}
+use Rattle.frontier_lock.proofs.lock.exchange_waking.Goals as goal
+use Rattle.frontier_lock.proofs.lock.exchange_waking.Goals.{then-was_busy, else-was_busy}
 
 pub returns-clause-woken : goal.returns-clause-woken
 returns-clause-woken c = λ slept none.
