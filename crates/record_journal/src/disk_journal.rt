@@ -111,7 +111,7 @@ impl<D: Files> DiskJournal<D> {
                 true
             }
             Added::Failed => {
-                self.tell_closed(rt);
+                self.report_closed(rt);
                 false
             }
             Added::Closed => false,
@@ -155,7 +155,7 @@ impl<D: Files> DiskJournal<D> {
         let now = u64::try_from(elapsed.as_millis()).unwrap_or(u64::MAX);
         if self.is_due(now) && synced.sync_data().is_err() {
             close(&mut self.tail.lock(rt));
-            self.tell_closed(rt);
+            self.report_closed(rt);
         }
     }
 
@@ -186,7 +186,7 @@ impl<D: Files> DiskJournal<D> {
     }
 
     // Reports to a person that what comes from here on isn't in the journal.
-    pub(crate) fn tell_closed<R: Eprint>(&self, rt: &R) {
+    pub(crate) fn report_closed<R: Eprint>(&self, rt: &R) {
         let path = self.path.as_str();
         let _ = eprintln!(rt;
             "{path}: can't be written any more; further answers are kept in memory, and lost if this run is killed"

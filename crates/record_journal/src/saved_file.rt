@@ -174,7 +174,7 @@ where
         let _ = look_for_file(self.disk, self.path.as_str())?;
         self.disk.rename(self.part.as_str(), self.path.as_str())?;
         if len > MAX_READ {
-            self.tell_long(len);
+            self.report_long(len);
         } else {
             self.drop_journal();
         }
@@ -189,7 +189,7 @@ where
     }
 
     // Reports to a person that the file is whole, and that no run will take it.
-    fn tell_long(&self, len: u64) {
+    fn report_long(&self, len: u64) {
         let path = self.path.as_str();
         let _ = eprintln!(self.rt;
             "{path}: {len} bytes, more than the {MAX_READ} that can be resumed"

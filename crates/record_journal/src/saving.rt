@@ -36,12 +36,12 @@ pub enum SaveFault {
 pub struct Saving<D: Files> {
     journal: OnceLock<DiskJournal<D>>,
     // What the journal had that is resumed, until it is taken.
-    left: Mutex<Option<Left>>,
+    left: Mutex<Option<LeftRecord>>,
 }
 
 // What an earlier run left in a journal: a record, or nothing if there was no journal.
 #[derive(Drop)]
-struct Left {
+struct LeftRecord {
     text: Vec<u8>,
     // Whether it is the journal of the file that is resumed, and not of another that is saved to.
     is_beside: bool,
@@ -122,7 +122,7 @@ fn grouped(alloc: Global, number: usize) -> Result<String, AllocError> {
 }
 
 // Reports to a person how many answers of a journal are taken, and how many bytes of one that isn't whole are left out.
-fn tell_taken<R: Eprint>(
+fn report_taken<R: Eprint>(
     rt: &R,
     alloc: Global,
     path: &str,
@@ -154,7 +154,7 @@ fn cut_to<R: Eprint>(
     if text.is_empty() {
         text.extend_from_slice(FIRST_LINE)?;
     }
-    tell_taken(rt, alloc, path, front.site.entry_count(), torn)
+    report_taken(rt, alloc, path, front.site.entry_count(), torn)
 }
 
 // All bytes of the file at a path, at most this many; none if there is no file.
@@ -428,7 +428,7 @@ impl<D: Files> Saving<D> {
         let whole = self.take_left(rt, alloc, &mut held, saved, resumed)?;
         let journal = held.begin(rt, alloc, whole);
         if !journal.is_open(rt) {
-            journal.tell_closed(rt);
+            journal.report_closed(rt);
         }
         let _ = self.journal.try_set(journal);
         Ok(())
@@ -453,7 +453,7 @@ impl<D: Files> Saving<D> {
             cut_to(rt, alloc, held.path(), &mut text, &front)?;
         }
         let is_beside = from == saved;
-        *self.left.lock(rt) = Some(Left { text, is_beside });
+        *self.left.lock(rt) = Some(LeftRecord { text, is_beside });
         Ok(front.len as u64)
     }
 
@@ -471,12 +471,12 @@ impl<D: Files> Saving<D> {
         let left = self.left.lock(rt).take();
         match left {
             Some(
-                Left {
+                LeftRecord {
                     text,
                     is_beside: true,
                 },
             ) => read_with(disk, alloc, path, limit, text),
-            Some(Left { text, .. }) => {
+            Some(LeftRecord { text, .. }) => {
                 let record = read_beside(rt, disk, alloc, path, limit)?;
                 joined(alloc, record, text)
             }
