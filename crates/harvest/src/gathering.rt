@@ -177,14 +177,14 @@ pub struct Parted<B> {
 
 /// What a frontier holds, in address order, and in origin order.
 #[derive(Drop)]
-pub struct Held {
+pub struct FrontierContents {
     pub entries: Vec<HarvestEntry>,
     pub records: Vec<(Address, Outcome)>,
     pub rules: Vec<(Origin, RuleSet)>,
 }
 
 /// What a frontier holds, each list sorted; an entry names the place of its outcome in the records.
-fn gather_held(alloc: Global, frontier: &Frontier) -> Result<Held, AllocError>
+fn gather_held(alloc: Global, frontier: &Frontier) -> Result<FrontierContents, AllocError>
     ensures entries_ascend { IfOk result (λ held. IsAscending (map (λ entry. entry.address) held.entries.items)) }
     ensures entries { IfOk result (λ held. IsPermutation (seen_in frontier.now.state) (map said_by held.entries.items)) }
     ensures places { IfOk result (λ held. All (λ entry. IsPlaceOf held.records.items entry.address entry.answer) held.entries.items) }
@@ -196,7 +196,7 @@ fn gather_held(alloc: Global, frontier: &Frontier) -> Result<Held, AllocError>
     let records = gather_records(alloc, frontier)?;
     let entries = gather_entries(alloc, frontier, records.as_slice())?;
     let rules = gather_rules(alloc, frontier)?;
-    Ok(Held {
+    Ok(FrontierContents {
         entries,
         records,
         rules,
@@ -234,7 +234,7 @@ pub fn gather_all<B: Drop>(
     alloc: Global,
     frontier: &Frontier,
     pages: Vec<KeptPage<B>>,
-) -> Result<(Held, Parted<B>), AllocError>
+) -> Result<(FrontierContents, Parted<B>), AllocError>
     requires { IsOnce (map (λ page. page.address) pages.items) }
     ensures entries_ascend { IfOk result (λ all. IsAscending (map (λ entry. entry.address) all.0.entries.items)) }
     ensures entries { IfOk result (λ all. IsPermutation (seen_in frontier.now.state) (map said_by all.0.entries.items)) }

@@ -12,7 +12,7 @@ ghost use Rattle.harvest.specs.Pages.{IsKept};
 ghost use Rattle.harvest.specs.Gathered.{IsHarvestOf};
 
 use crate::entry::HarvestEntry;
-use crate::gathering::{Held, Parted, gather_all};
+use crate::gathering::{FrontierContents, Parted, gather_all};
 use crate::page::KeptPage;
 use address::{Address, Origin};
 use fetcher::Outcome;
@@ -98,7 +98,7 @@ impl<B: Drop> Harvest<B> {
                 return Err(short);
             }
         };
-        let Held {
+        let FrontierContents {
             entries,
             records,
             rules,

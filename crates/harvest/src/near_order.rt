@@ -8,7 +8,7 @@ use std::cmp::Ordering;
 
 // Sixteen bytes of a name, and the place of what it names.
 #[derive(Clone, Copy)]
-struct Mark {
+struct NamePrefix {
     first: u64,
     second: u64,
     place: usize,
@@ -52,12 +52,16 @@ fn word_at(bytes: &[u8], from: usize) -> u64 {
 }
 
 // The mark of each thing, whose names all begin with so many bytes alike.
-fn marks_of<T: Named>(alloc: Global, things: &[T], from: usize) -> Result<Vec<Mark>, AllocError> {
+fn marks_of<T: Named>(
+    alloc: Global,
+    things: &[T],
+    from: usize,
+) -> Result<Vec<NamePrefix>, AllocError> {
     let mut marks = Vec::with_capacity(alloc, things.len())?;
     for thing in things {
         let bytes = thing.name().as_bytes();
         let place = marks.len();
-        marks.push(Mark {
+        marks.push(NamePrefix {
             first: word_at(bytes, from),
             second: word_at(bytes, from.saturating_add(8)),
             place,
@@ -75,7 +79,7 @@ fn name_at<T: Named>(things: &[T], place: usize) -> &str {
 }
 
 // How two marks compare; the names, if the marks are equal.
-fn compare<T: Named>(things: &[T], mark: &Mark, other: &Mark) -> Ordering {
+fn compare<T: Named>(things: &[T], mark: &NamePrefix, other: &NamePrefix) -> Ordering {
     if mark.first != other.first {
         return mark.first.cmp(&other.first);
     }
@@ -86,7 +90,7 @@ fn compare<T: Named>(things: &[T], mark: &Mark, other: &Mark) -> Ordering {
 }
 
 // Where each thing belongs, by the order of the marks.
-fn homes_of(alloc: Global, marks: &[Mark]) -> Result<Vec<usize>, AllocError> {
+fn homes_of(alloc: Global, marks: &[NamePrefix]) -> Result<Vec<usize>, AllocError> {
     let mut homes = Vec::with_capacity(alloc, marks.len())?;
     for mark in marks {
         homes.push(mark.place)?;

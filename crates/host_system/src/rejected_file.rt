@@ -13,7 +13,7 @@ const NOT_WRITTEN: &[u8] = b"rejected log not written\n";
 
 // A file, with its path.
 #[derive(Drop)]
-struct Named<F: Write + Drop> {
+struct PathFile<F: Write + Drop> {
     path: String,
     file: F,
 }
@@ -23,25 +23,28 @@ struct Named<F: Write + Drop> {
 pub struct RejectedFile<'a, R: Wait, F: Write + Drop> {
     rt: &'a R,
     failures: &'a SharedFailures,
-    named: Option<Named<F>>,
+    named: Option<PathFile<F>>,
     // Whether the log couldn't be written.
     is_lost: bool,
 }
 
 // The file at a path, begun afresh, if there is one.
-fn named_at<D: Files>(disk: &D, path: Option<String>) -> Result<Option<Named<D::File>>, Refused> {
+fn named_at<D: Files>(
+    disk: &D,
+    path: Option<String>,
+) -> Result<Option<PathFile<D::File>>, Unopened> {
     let Some(path) = path else {
         return Ok(None);
     };
     match open_file(disk, path.as_str(), false) {
-        Ok(file) => Ok(Some(Named { path, file })),
-        Err(error) => Err(Refused { path, error }),
+        Ok(file) => Ok(Some(PathFile { path, file })),
+        Err(error) => Err(Unopened { path, error }),
     }
 }
 
 // A file that can't be opened, and why.
 #[derive(Drop)]
-struct Refused {
+struct Unopened {
     path: String,
     error: Error,
 }
@@ -63,7 +66,7 @@ impl<'a, R: Wait, F: Write + Drop> RejectedFile<'a, R, F> {
                 named,
                 is_lost: false,
             }),
-            Err(Refused { path, error }) => {
+            Err(Unopened { path, error }) => {
                 failures.fail(rt, path.as_str(), &error);
                 let _ = write_text(writer, NOT_WRITTEN);
                 None

@@ -59,12 +59,12 @@ pub struct MemoryConnect<'a> {
     made: u64,
     refused: u64,
     taken: u64,
-    kept: Option<Kept<'a>>,
+    kept: Option<KeptWire<'a>>,
 }
 
 /// A connection that is kept, and the origin that it was made for.
 #[derive(Drop)]
-struct Kept<'a> {
+struct KeptWire<'a> {
     of: Origin,
     wire: StoredWire<'a>,
 }
@@ -210,7 +210,7 @@ impl<'a> Connect for MemoryConnect<'a> {
             return;
         }
         if let Ok(of) = of.try_clone() {
-            self.kept = Some(Kept {
+            self.kept = Some(KeptWire {
                 of,
                 wire: wire.rested(),
             });

@@ -72,25 +72,25 @@ pub(crate) fn is_failed(outcome: &Outcome) -> bool
 // How many addresses of a report were requested, how many pages are kept, how many addresses robots
 // rules refuse, and how many failed.
 #[derive(Clone, Copy)]
-struct Counts {
+struct ReportCounts {
     asked: usize,
     kept: usize,
     refused: usize,
     failed: usize,
 }
 
-impl Counts {
+impl ReportCounts {
     ghost use Rattle.std.specs.Prelude.{◌≡◌};
     ghost use Rattle.report.specs.Report.{was_asked, was_refused, has_failed, count_of, count_kept};
 
     // The counts of these rows.
-    fn of(rows: &[ReportRow<'_>]) -> Counts
+    fn of(rows: &[ReportRow<'_>]) -> ReportCounts
         ensures asked { result.asked ≡ count_of was_asked rows.now }
         ensures kept { result.kept ≡ count_kept rows.now }
         ensures refused { result.refused ≡ count_of was_refused rows.now }
         ensures failed { result.failed ≡ count_of has_failed rows.now }
     {
-        Counts {
+        ReportCounts {
             asked: count_asked(rows),
             kept: count_kept(rows),
             refused: count_refused(rows),
@@ -170,10 +170,10 @@ fn push_line(text: &mut String, row: &ReportRow<'_>) -> Result<(), AllocError>
 }
 
 // Adds the counts.
-fn push_counts(text: &mut String, counts: Counts) -> Result<(), AllocError>
+fn push_counts(text: &mut String, counts: ReportCounts) -> Result<(), AllocError>
     ensures ok { OnOk result (string_bytes text.new ≡ string_bytes text.old ++ counts_text counts.asked counts.kept counts.refused counts.failed) }
 {
-    let Counts {
+    let ReportCounts {
         asked,
         kept,
         refused,
@@ -192,7 +192,7 @@ pub(crate) fn push_report(text: &mut String, rows: &[ReportRow<'_>]) -> Result<(
     for row in rows {
         push_line(text, row)?;
     }
-    push_counts(text, Counts::of(rows))
+    push_counts(text, ReportCounts::of(rows))
 }
 
 /// The report of a harvest whose kept pages have these names, each in its page's place: a line

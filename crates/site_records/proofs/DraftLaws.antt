@@ -4,7 +4,7 @@ use Rattle.std.specs.Prelude.{All, filter, flat_map, not}
 use Rattle.std.proofs.lemmas.List.Elements.{All-nil, All-cons, All-append}
 use Rattle.std.proofs.lemmas.Grind.{flat_map-append}
 use Rattle.answer_notes.specs.declared.noted.Noted.{Noted}
-use Rattle.site_records.specs.declared.written_record.Named.{Named}
+use Rattle.site_records.specs.declared.written_record.SeenNames.{SeenNames}
 use Rattle.site_records.specs.declared.version.Version.TheVariants.{Second}
 use Rattle.site_records.specs.Records.{version_line}
 use Rattle.site_records.specs.WrittenEntries.{note_text, written_note, has_short_heads, IsNote}
@@ -40,7 +40,7 @@ text_push notes n =
     ∙ sym (append_assoc (version_line Second) (flat_map note_text (written_notes notes)) (flat_map note_text more))
 
 -- a note is added, unless it is repeated
-pub draft_grows : (is_new : Bool) (text more : List ℕ) (old new : Named) (notes : List Noted) (n : Noted) → IsDraft text old notes → AreDraftsNamed new (notes ++ n ∷ [])
+pub draft_grows : (is_new : Bool) (text more : List ℕ) (old new : SeenNames) (notes : List Noted) (n : Noted) → IsDraft text old notes → AreDraftsNamed new (notes ++ n ∷ [])
     → is_new ≡ not (is_repeated notes n) → (is_new ≡ true → (more ≡ text ++ written_note n) × (has_short_heads n ≡ true → IsNote n)) → (is_new ≡ false → more ≡ text)
     → IsDraft more new (notes ++ n ∷ [])
 draft_grows is_new text more old new notes n draft named is first again = by (is_repeated notes n) refl

@@ -89,7 +89,7 @@ fn read_hop<'a>(
 
 /// This many hops, where the chain leads after them, and what follows them in the text.
 #[derive(Drop)]
-struct Row<'a> {
+struct HopRow<'a> {
     hops: Vec<(Address, Received)>,
     next: Option<Address>,
     rest: &'a [u8],
@@ -101,7 +101,7 @@ fn read_row<'a>(
     of: &Origin,
     count: usize,
     text: &'a [u8],
-) -> Result<Row<'a>, EntryFault>
+) -> Result<HopRow<'a>, EntryFault>
     ensures { MatchResult result (λ row. IsBegun of.now text.now row.hops.items row.rest.now × (length row.hops.items ≡ count) × (row.next ≡ due (chain_start of.now) row.hops.items))
         (λ f. IsWrongRow of.now count text.now f) }
 {
@@ -118,7 +118,7 @@ fn read_row<'a>(
             Err(fault) => return Err(EntryFault::Hop(hops.len(), fault)),
         }
     }
-    Ok(Row { hops, next, rest })
+    Ok(HopRow { hops, next, rest })
 }
 
 /// Takes the chain of an origin, which has so many hops, and gives what follows it in the text.
@@ -132,7 +132,7 @@ pub(crate) fn read_chain<'a>(
     ensures { MatchResult result (λ chain. AreHopsOf text.now chain.0.hops chain.1.now × (length chain.0.hops ≡ count) × (chain.0.of ≡ of.now) × IsAdmitted of.now chain.0.hops)
         (λ f. IsWrongChain of.now count text.now f) }
 {
-    let Row { hops, next, rest } = read_row(alloc, of, count, text)?;
+    let HopRow { hops, next, rest } = read_row(alloc, of, count, text)?;
     if count < MAX_HOPS && next.is_some() {
         return Err(EntryFault::Own(InputLineFault::Line));
     }

@@ -18,7 +18,7 @@ use crate::entry_line::EntryLine;
 use crate::first_line::{counted, first_text_line};
 use crate::first_version::{bare_chain, file_chain};
 use crate::hop_row::{read_chain, read_received};
-use crate::recorded_site::Stated;
+use crate::recorded_site::RecordContents;
 use crate::taken::Taken;
 use crate::version::Version;
 use address::{Address, Origin};
@@ -348,7 +348,7 @@ impl RecordReading {
     }
 
     /// What the entries read so far state, alone.
-    pub(crate) fn stated(self) -> Stated
+    pub(crate) fn stated(self) -> RecordContents
         ensures answers { result.answers.entries ≡ self.answers.entries }
         ensures rules { result.rules.entries ≡ self.rules.entries }
         ensures notes { result.notes.items ≡ self.notes.items }
@@ -363,7 +363,7 @@ impl RecordReading {
             version: _,
             keeps_notes: _,
         } = self;
-        Stated {
+        RecordContents {
             answers,
             rules,
             notes,

@@ -15,7 +15,7 @@ use std::sync::Arc;
 
 /// What a record states.
 #[derive(Drop)]
-pub(crate) struct Stated {
+pub(crate) struct RecordContents {
     pub(crate) answers: IndexMap<Address, Answer<Body>>,
     pub(crate) rules: IndexMap<Origin, KeptRules>,
     pub(crate) notes: Vec<Noted>,
@@ -36,7 +36,7 @@ pub struct RecordParts {
 /// record states, the notes that are kept of it, and what was asked.
 pub struct RecordedSite {
     alloc: Global,
-    stated: Arc<Stated>,
+    stated: Arc<RecordContents>,
     asks: Vec<Ask>,
 }
 

@@ -21,17 +21,17 @@ use streams::Pieces;
 
 /// The addresses and the origins of the notes so far.
 #[derive(Drop)]
-struct Named<'a> {
+struct SeenNames<'a> {
     addresses: IndexSet<&'a str>,
     origins: IndexSet<&'a str>,
 }
 
-impl<'a> Named<'a> {
+impl<'a> SeenNames<'a> {
     // Those of no notes. Takes no memory.
-    fn new(alloc: Global) -> Named<'a>
+    fn new(alloc: Global) -> SeenNames<'a>
         ensures { AreDraftsNamed result [] }
     {
-        Named {
+        SeenNames {
             addresses: IndexSet::new(alloc),
             origins: IndexSet::new(alloc),
         }
@@ -53,7 +53,7 @@ impl<'a> Named<'a> {
 fn add_note<'a>(
     alloc: Global,
     text: &mut Pieces<'a>,
-    named: &mut Named<'a>,
+    named: &mut SeenNames<'a>,
     note: &'a Noted,
 ) -> Result<(), AllocError>
     ensures { OnOk result ((notes : List Noted) → IsDraft text.old named.old notes → IsDraft text.new named.new (notes ++ note.now ∷ [])) }
@@ -68,7 +68,7 @@ fn add_note<'a>(
 fn add_notes<'a>(
     alloc: Global,
     text: &mut Pieces<'a>,
-    named: &mut Named<'a>,
+    named: &mut SeenNames<'a>,
     more: &'a [Noted],
 ) -> Result<(), AllocError>
     ensures { OnOk result ((notes : List Noted) → IsDraft text.old named.old notes → IsDraft text.new named.new (notes ++ more.now)) }
@@ -83,7 +83,7 @@ fn add_notes<'a>(
 fn add_parts<'a>(
     alloc: Global,
     text: &mut Pieces<'a>,
-    named: &mut Named<'a>,
+    named: &mut SeenNames<'a>,
     parts: &[&'a [Noted]],
 ) -> Result<(), AllocError>
     ensures { OnOk result (IsDraft text.old named.old [] → IsDraft text.new named.new (all_noted parts.now)) }
@@ -100,15 +100,15 @@ fn add_record<'a>(
     text: &mut Pieces<'a>,
     notes: &[&'a [Noted]],
 ) -> Result<(), AllocError>
-    ensures { OnOk result (text.old ≡ [] → (named : Named) × IsDraft text.new named (all_noted notes.now)) }
+    ensures { OnOk result (text.old ≡ [] → (named : SeenNames) × IsDraft text.new named (all_noted notes.now)) }
 {
     text.push_lent(SECOND_VERSION_LINE)?;
-    add_parts(alloc, text, &mut Named::new(alloc), notes)
+    add_parts(alloc, text, &mut SeenNames::new(alloc), notes)
 }
 
 // The text of the record of these notes. Fails only if memory runs out.
 fn text_of<'a>(alloc: Global, notes: &[&'a [Noted]]) -> Result<Pieces<'a>, AllocError>
-    ensures { IfOk result (λ text. (named : Named) × IsDraft text named (all_noted notes.now)) }
+    ensures { IfOk result (λ text. (named : SeenNames) × IsDraft text named (all_noted notes.now)) }
 {
     let mut text = Pieces::new(alloc);
     add_record(alloc, &mut text, notes)?;

@@ -6,7 +6,7 @@ use Rattle.answer_notes.specs.declared.noted.Noted.{Noted}
 use Rattle.site_records.specs.WrittenRecords.{is_repeated, is_page_of, is_chain_of}
 use Rattle.site_records.specs.inner.RecordDrafts.{AreDraftsNamed}
 use Rattle.site_records.proofs.NamedLaws.{page_added, chain_added, pages_stay, chains_stay}
-use Rattle.site_records.proofs.written_record.Named.add.Goals as goal
+use Rattle.site_records.proofs.written_record.SeenNames.add.Goals as goal
 
 pub returns-in_ok-insert-in-Page : goal.returns-in_ok-insert-in-Page
 returns-in_ok-insert-in-Page c = λ notes h.
