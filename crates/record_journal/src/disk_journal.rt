@@ -153,14 +153,14 @@ impl<D: Files> DiskJournal<D> {
             return;
         };
         let now = u64::try_from(elapsed.as_millis()).unwrap_or(u64::MAX);
-        if self.is_due(now) && synced.sync_data().is_err() {
+        if self.is_sync_due(now) && synced.sync_data().is_err() {
             close(&mut self.tail.lock(rt));
             self.report_closed(rt);
         }
     }
 
     // Whether it is due, and this caller is the one.
-    fn is_due(&self, now: u64) -> bool {
+    fn is_sync_due(&self, now: u64) -> bool {
         let due = self.due.load(Ordering::SeqCst);
         let next = now.saturating_add(PAUSE);
         now >= due

@@ -3,18 +3,13 @@ ghost use Rattle.std.specs.Prelude.{None};
 
 use crate::disk_journal::DiskJournal;
 use crate::held_journal::look_for_file;
+use site_records::{MAX_RECORD, SECOND_VERSION_LINE};
 use std::alloc::{AllocError, Global};
 use std::fs::{File, Files, OpenFile};
 use std::io;
 use std::io::{Error, ErrorKind, Write};
 use std::sync::Wait;
 use streams::Close;
-
-/// How many bytes a record may have that is to be read again.
-const MAX_READ: u64 = 1_073_741_824;
-
-/// How many bytes the first line of a record has.
-const FIRST_LEN: u64 = 15;
 
 /// A record's file in the making. What is written goes into `SAVED.part`. When it is flushed, the entries of the run's journal
 /// are added after it, all is brought onto the disk, the part gets the file's name, and the journal is removed. If nothing but
@@ -144,7 +139,7 @@ where
     // Puts the part in place, or the journal if nothing else is saved.
     fn put(&self, file: D::File) -> io::Result<()> {
         let _ = look_for_file(self.disk, self.path.as_str())?;
-        if file.metadata()?.len() == FIRST_LEN && self.is_journal_put()? {
+        if file.metadata()?.len() == SECOND_VERSION_LINE.len() as u64 && self.is_journal_put()? {
             let _ = self.disk.remove_file(self.part.as_str());
             return Ok(());
         }
@@ -158,8 +153,8 @@ where
                 self.rt,
                 self.disk,
                 self.path.as_str(),
-                FIRST_LEN,
-                MAX_READ,
+                SECOND_VERSION_LINE.len() as u64,
+                MAX_RECORD as u64,
             ),
             None => Ok(false),
         }
@@ -173,7 +168,7 @@ where
         let len = finish(file)?;
         let _ = look_for_file(self.disk, self.path.as_str())?;
         self.disk.rename(self.part.as_str(), self.path.as_str())?;
-        if len > MAX_READ {
+        if len > MAX_RECORD as u64 {
             self.report_long(len);
         } else {
             self.drop_journal();
@@ -192,7 +187,7 @@ where
     fn report_long(&self, len: u64) {
         let path = self.path.as_str();
         let _ = eprintln!(self.rt;
-            "{path}: {len} bytes, more than the {MAX_READ} that can be resumed"
+            "{path}: {len} bytes, more than the {MAX_RECORD} that can be resumed"
         );
     }
 }

@@ -6,7 +6,10 @@ use crate::saved_file::can_be_made;
 use answer_notes::{Noted, Received};
 use html_links::LinkRules;
 use site_inputs::InputFault;
-use site_records::{RecordFault, RecordFront, RecordedSite, read_front, write_record};
+use site_records::{
+    MAX_RECORD, RecordFault, RecordFront, RecordedSite, SECOND_VERSION_LINE, read_front,
+    write_record,
+};
 use std::alloc::{AllocError, Global};
 use std::fs::{File, Files};
 use std::io::ErrorKind;
@@ -14,12 +17,6 @@ use std::sync::{Mutex, OnceLock, Wait};
 use std::time::Clock;
 use streams::{Lock, ReadInputFault, read_input};
 use thiserror::Error;
-
-/// How many bytes a journal may have that is to be read.
-const MAX_READ: usize = 1_073_741_824;
-
-/// A record without entries.
-const FIRST_LINE: &[u8] = b"wgetr-record 2\n";
 
 /// Why a run may not save there.
 #[derive(Clone, Copy, Debug, PartialEq, Eq, Error)]
@@ -63,13 +60,13 @@ fn text_of<R: Eprint, D: Files>(
     alloc: Global,
     held: &mut HeldJournal<D>,
 ) -> Result<Vec<u8>, SaveFault> {
-    match read_input(alloc, held.file(), MAX_READ) {
+    match read_input(alloc, held.file(), MAX_RECORD) {
         Ok(text) => Ok(text),
         Err(ReadInputFault::Memory) => Err(SaveFault::Memory),
         Err(_) => {
             let path = held.path();
             let _ = eprintln!(rt;
-                "{path}: can't be read, or is longer than {MAX_READ} bytes; move it away, or remove it"
+                "{path}: can't be read, or is longer than {MAX_RECORD} bytes; move it away, or remove it"
             );
             Err(SaveFault::Refused)
         }
@@ -78,7 +75,7 @@ fn text_of<R: Eprint, D: Files>(
 
 // Whether a journal is a record of version 2, or was cut within its first line.
 fn is_journal(text: &[u8]) -> bool {
-    text.starts_with(FIRST_LINE) || FIRST_LINE.starts_with(text)
+    text.starts_with(SECOND_VERSION_LINE) || SECOND_VERSION_LINE.starts_with(text)
 }
 
 // Reports to a person which line of a journal isn't one of a record, and refuses it.
@@ -152,7 +149,7 @@ fn cut_to<R: Eprint>(
     let torn = text.len().saturating_sub(front.len);
     text.truncate(front.len);
     if text.is_empty() {
-        text.extend_from_slice(FIRST_LINE)?;
+        text.extend_from_slice(SECOND_VERSION_LINE)?;
     }
     report_taken(rt, alloc, path, front.site.entry_count(), torn)
 }
@@ -259,7 +256,7 @@ fn left_beside<R: Eprint, D: Files>(
     if !is_beside(rt, disk, path.as_str())? {
         return Ok(Vec::new(alloc));
     }
-    let Some(mut text) = read_at(disk, alloc, path.as_str(), MAX_READ)? else {
+    let Some(mut text) = read_at(disk, alloc, path.as_str(), MAX_RECORD)? else {
         return Ok(Vec::new(alloc));
     };
     match front_of(rt, alloc, path.as_str(), text.as_slice()) {

@@ -27,4 +27,5 @@ pub use note_entry::push_note;
 pub use record_fault::RecordFault;
 pub use recorded_site::{RecordParts, RecordedSite};
 pub use resumed::Resumed;
+pub use version::{MAX_RECORD, SECOND_VERSION_LINE};
 pub use written_record::write_record;

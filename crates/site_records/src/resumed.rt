@@ -15,7 +15,7 @@ use robots_rules::RuleSet;
 use std::alloc::{AllocError, Global};
 use std::marker::Model;
 
-/// Answers from a record what this states, recorded faults too, and asks a fetcher for the rest. An observer is told of the first.
+/// Answers from a record what this states, recorded faults too, and asks a fetcher for the rest. An observer counts the first.
 #[derive(Drop)]
 pub struct Resumed<'a, F: Fetcher<Body = Body>, O: Observer> {
     recorded: RecordedSite,

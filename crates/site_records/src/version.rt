@@ -11,11 +11,14 @@ pub(crate) enum Version {
     Second,
 }
 
+/// How many bytes a record may have that is to be read again.
+pub const MAX_RECORD: usize = 1_073_741_824;
+
 /// The first line of a record of version 1.
 const VERSION_LINE: &[u8] = b"wgetr-record 1\n";
 
-/// The first line of a record of version 2.
-pub(crate) const SECOND_VERSION_LINE: &[u8] = b"wgetr-record 2\n";
+/// The first line of a record of version 2, which is a record without entries.
+pub const SECOND_VERSION_LINE: &[u8] = b"wgetr-record 2\n";
 
 // The version of a record, and what follows its first line; none if that names no version.
 pub(crate) fn version_of(bytes: &[u8]) -> Option<(Version, &[u8])>
