@@ -24,7 +24,7 @@ use Rattle.response_reader.specs.Limits.{Limited}
 use Rattle.retries.specs.Keeping.{MayKeep, StandsForAnswer, asks_of, is_worth_answer}
 use Rattle.retries.specs.Tries.{AreTries, IsLastOf}
 use Rattle.tcp_connect.specs.Connecting.{Connecting}
-use Rattle.tcp_fetcher.specs.Answering.{AreMarked, HasMark, IsAnswered, IsAnsweredBy, IsLeft, IsOfEarlier, IsReceived, IsReceivedIfChanged, IsReceivedUnder, IsReadAgain, IsRecorded, IsTold, Lasting, has_status, lasting, not_received, site_of, without_digest}
+use Rattle.tcp_fetcher.specs.Answering.{AreMarked, HasMark, IsAnswered, IsAnsweredBy, IsLeft, IsOfEarlier, IsReceived, IsReceivedIfChanged, IsReceivedUnder, IsReadAgain, IsRecorded, IsAnswerWith, Lasting, has_status, lasting, not_received, site_of, without_digest}
 use Rattle.tcp_fetcher.specs.TcpFetching.{TcpFetching, conditioned}
 use Rattle.tcp_fetcher.specs.PartsFetching.{MayAnswerIn}
 use Rattle.tcp_fetcher.specs.declared.earlier.Earlier.{Earlier}
@@ -123,10 +123,10 @@ module _ (fetcher : Lasting) (at : AddressText) (old new : Fetching Connecting) 
 -- what is received with a condition, if that is set before and taken away after
 pub received_under : {E : Type 0} (known : Option Earlier) (inner set : TcpFetching) (condition : Condition) (at : AddressText) (r : Result (Answer KeptPart) E) (left : Fetching Connecting)
     → set ≡ record inner { sends = with_condition (Some condition) inner.sends; single = conditioned (Some condition) inner.single }
-    → IfOk r (IsTold (lasting (record set { known = known })) at (IsReceived (lasting (record set { known = known })) at set.single left))
-    → IfOk r (IsTold (lasting (record inner { known = known })) at (IsReceivedUnder (lasting (record inner { known = known })) at condition inner.single (conditioned None left)))
+    → IfOk r (IsAnswerWith (lasting (record set { known = known })) at (IsReceived (lasting (record set { known = known })) at set.single left))
+    → IfOk r (IsAnswerWith (lasting (record inner { known = known })) at (IsReceivedUnder (lasting (record inner { known = known })) at condition inner.single (conditioned None left)))
 received_under known inner set condition at r left is received =
-    if_ok_map r _ _ (subst (λ (f : TcpFetching). IfOk r (IsTold (lasting (record f { known = known })) at (IsReceived (lasting (record f { known = known })) at f.single left))) is received)
+    if_ok_map r _ _ (subst (λ (f : TcpFetching). IfOk r (IsAnswerWith (lasting (record f { known = known })) at (IsReceived (lasting (record f { known = known })) at f.single left))) is received)
     (λ a told. (told.0, (left, told.1, refl)))
 
 -- what is answered by an entry is answered by what is known
@@ -142,22 +142,22 @@ module _ (fetcher : Lasting) (at : AddressText) (old new : Fetching Connecting) 
   of_missing a has unasked (inr left) = inr (entry, has, inr (unasked, left))
 
   pub kept_changed : {E : Type 0} (r : Result (Answer KeptPart) E) → fetcher.known ≡ Some earlier → HasThis earlier.pages at entry → earlier.is_asked ≡ true
-      → IfOk r (IsTold fetcher at (λ a. IsReceived fetcher at old new a ⊎ IsReceivedIfChanged fetcher at entry old new a))
-      → IfOk r (IsTold fetcher at (IsAnswered fetcher at old new))
+      → IfOk r (IsAnswerWith fetcher at (λ a. IsReceived fetcher at old new a ⊎ IsReceivedIfChanged fetcher at entry old new a))
+      → IfOk r (IsAnswerWith fetcher at (IsAnswered fetcher at old new))
   kept_changed r is has asked answered = if_ok_map r _ _ answered (λ a told. (told.0, answered_by fetcher at old new a fetcher.known earlier is (of_changed a has asked told.1)))
 
   pub kept_missing : {E : Type 0} (r : Result (Answer KeptPart) E) → fetcher.known ≡ Some earlier → HasThis earlier.pages at entry → earlier.is_asked ≡ false
-      → IfOk r (IsTold fetcher at (λ a. IsReceived fetcher at old new a ⊎ IsLeft fetcher at entry old new a))
-      → IfOk r (IsTold fetcher at (IsAnswered fetcher at old new))
+      → IfOk r (IsAnswerWith fetcher at (λ a. IsReceived fetcher at old new a ⊎ IsLeft fetcher at entry old new a))
+      → IfOk r (IsAnswerWith fetcher at (IsAnswered fetcher at old new))
   kept_missing r is has unasked answered = if_ok_map r _ _ answered (λ a told. (told.0, answered_by fetcher at old new a fetcher.known earlier is (of_missing a has unasked told.1)))
 
 -- that a page was noted changes nothing of its answer
 pub answered_noted : {E : Type 0} (known : Option Earlier) (inner noted : TcpFetching) (asks : List Ask) (at : AddressText) (r : Result (Answer KeptPart) E) (new : Fetching Connecting)
     → noted ≡ record inner { asks = asks }
-    → IfOk r (IsTold (lasting (record noted { known = known })) at (IsAnswered (lasting (record noted { known = known })) at noted.single new))
-    → IfOk r (IsTold (lasting (record inner { known = known })) at (IsAnswered (lasting (record inner { known = known })) at inner.single new))
+    → IfOk r (IsAnswerWith (lasting (record noted { known = known })) at (IsAnswered (lasting (record noted { known = known })) at noted.single new))
+    → IfOk r (IsAnswerWith (lasting (record inner { known = known })) at (IsAnswered (lasting (record inner { known = known })) at inner.single new))
 answered_noted known inner noted asks at r new is answered =
-    subst (λ (f : TcpFetching). IfOk r (IsTold (lasting (record f { known = known })) at (IsAnswered (lasting (record f { known = known })) at f.single new))) is answered
+    subst (λ (f : TcpFetching). IfOk r (IsAnswerWith (lasting (record f { known = known })) at (IsAnswered (lasting (record f { known = known })) at f.single new))) is answered
 
 -- the same of a page that isn't kept
 pub passed_noted : {E : Type 0} (known : Option Earlier) (inner noted : TcpFetching) (asks : List Ask) (at : AddressText) (r : Result (Answer KeptPart) E) (new : Fetching Connecting)

@@ -87,8 +87,8 @@ AreMarked (Changed time) bytes = Unit {0}
 
 module _ (fetcher : Lasting) (at : AddressText) where
   -- the answer is one that the site may give, and of which this holds
-  abbrev pub IsTold : (Answer KeptPart → Type 0) → Answer KeptPart → Type 0
-  IsTold Holds answer = MayAnswerIn (site_of fetcher) at answer.outcome answer.body × Holds answer
+  abbrev pub IsAnswerWith : (Answer KeptPart → Type 0) → Answer KeptPart → Type 0
+  IsAnswerWith Holds answer = MayAnswerIn (site_of fetcher) at answer.outcome answer.body × Holds answer
 
   -- the answer is one that the site may give, of the status that was recorded, and its body, which this run didn't receive, has the SHA-256
   -- that was recorded, or is that of a file with the time that was recorded

@@ -1,4 +1,4 @@
-//! Connections over TCP of which an observer is told.
+//! Connections over TCP that report to an observer.
 ghost use Rattle.std.specs.Prelude.{◌≡◌};
 ghost use Rattle.response_reader.specs.Wire.{CountsFault, NotesLoss, counted};
 ghost use Rattle.connect.specs.Connects.{CountsRefusal};
@@ -16,7 +16,7 @@ use std::sync::Wait;
 use std::time::{Clock, Duration};
 use tcp_connect::{Connection, TcpConnect};
 
-/// Makes connections over TCP for one worker, and tells an observer how each request over them ended.
+/// Makes connections over TCP for one worker, and reports to an observer how each request over them ended.
 #[derive(Drop)]
 pub struct ObservedTcp<'a, R: Net + Wait + Clock + Eprint> {
     inner: TcpConnect<'a, R>,
@@ -110,7 +110,7 @@ impl<'a, R: Net + Wait + Clock + Eprint> Connect for ObservedTcp<'a, R> {
         }
     }
 
-    // Each request that a kept connection serves is told by itself.
+    // Each request that a kept connection serves is reported by itself.
     fn take(&mut self, of: &Origin) -> Option<ObservedWire<'a, R>> {
         match self.inner.take(of) {
             Some(wire) => Some(ObservedWire::new(wire, true)),

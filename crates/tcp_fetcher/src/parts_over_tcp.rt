@@ -5,7 +5,7 @@ ghost use Rattle.fetcher.specs.Logs.{GainedAtMost};
 ghost use Rattle.fetcher.specs.declared.fetcher.Ask.TheVariants as ask;
 ghost use Rattle.http_fetcher.specs.Fetching.{with_condition};
 ghost use Rattle.response_reader.specs.Limits.{limited};
-ghost use Rattle.tcp_fetcher.specs.Answering.{HasMark, IsAnswered, IsConcluded, IsLeft, IsReceived, IsReceivedIfChanged, IsReceivedUnder, IsReadAgain, IsRecorded, IsTold, has_status, is_unchanged, lasting, not_received, without_digest};
+ghost use Rattle.tcp_fetcher.specs.Answering.{HasMark, IsAnswered, IsConcluded, IsLeft, IsReceived, IsReceivedIfChanged, IsReceivedUnder, IsReadAgain, IsRecorded, IsAnswerWith, has_status, is_unchanged, lasting, not_received, without_digest};
 ghost use Rattle.tcp_fetcher.specs.PartsFetching.{MayAnswerIn, MayRuleIn, PartsSite, parts_site};
 ghost use Rattle.tcp_fetcher.specs.TcpFetching.{last_loss};
 
@@ -151,7 +151,7 @@ where
 
     // Requests a page over the network that was noted.
     fn ask_noted(&mut self, at: &Address) -> Result<Answer<KeptPart>, AllocError>
-        ensures received { IfOk result (IsTold (lasting self.old) at.now (IsReceived (lasting self.old) at.now self.old.single self.new.single)) }
+        ensures received { IfOk result (IsAnswerWith (lasting self.old) at.now (IsReceived (lasting self.old) at.now self.old.single self.new.single)) }
         ensures lasting { lasting self.new ≡ lasting self.old }
     {
         let answer = self.inner.ask_noted(&mut self.sink, at)?;
@@ -244,7 +244,7 @@ where
         at: &Address,
         condition: Condition,
     ) -> Result<Answer<KeptPart>, AllocError>
-        ensures received { IfOk result (IsTold (lasting self.old) at.now (IsReceivedUnder (lasting self.old) at.now condition self.old.single self.new.single)) }
+        ensures received { IfOk result (IsAnswerWith (lasting self.old) at.now (IsReceivedUnder (lasting self.old) at.now condition self.old.single self.new.single)) }
         ensures lasting { lasting self.new ≡ lasting self.old }
     {
         self.inner.set_condition(Some(condition));
@@ -262,7 +262,7 @@ where
         received: Answer<KeptPart>,
     ) -> Result<Answer<KeptPart>, AllocError>
         requires { MayAnswerIn (parts_site self.old) at.now received.outcome received.body }
-        ensures concluded { IfOk result (IsTold (lasting self.old) at.now (IsConcluded (lasting self.old) at.now page.entry.entry received self.old.single self.new.single)) }
+        ensures concluded { IfOk result (IsAnswerWith (lasting self.old) at.now (IsConcluded (lasting self.old) at.now page.entry.entry received self.old.single self.new.single)) }
         ensures lasting { lasting self.new ≡ lasting self.old }
     {
         if !is_unchanged(&received.outcome) {
@@ -280,7 +280,7 @@ where
         at: &Address,
         page: EarlierPage<'_, R::File>,
     ) -> Result<Answer<KeptPart>, AllocError>
-        ensures answered { IfOk result (IsTold (lasting self.old) at.now (λ a. IsReceived (lasting self.old) at.now self.old.single self.new.single a ⊎ IsReceivedIfChanged (lasting self.old) at.now page.entry.entry self.old.single self.new.single a)) }
+        ensures answered { IfOk result (IsAnswerWith (lasting self.old) at.now (λ a. IsReceived (lasting self.old) at.now self.old.single self.new.single a ⊎ IsReceivedIfChanged (lasting self.old) at.now page.entry.entry self.old.single self.new.single a)) }
         ensures lasting { lasting self.new ≡ lasting self.old }
     {
         let Some(condition) = page.condition()? else {
@@ -296,7 +296,7 @@ where
         at: &Address,
         page: EarlierPage<'_, R::File>,
     ) -> Result<Answer<KeptPart>, AllocError>
-        ensures answered { IfOk result (IsTold (lasting self.old) at.now (λ a. IsReceived (lasting self.old) at.now self.old.single self.new.single a ⊎ IsLeft (lasting self.old) at.now page.entry.entry self.old.single self.new.single a)) }
+        ensures answered { IfOk result (IsAnswerWith (lasting self.old) at.now (λ a. IsReceived (lasting self.old) at.now self.old.single self.new.single a ⊎ IsLeft (lasting self.old) at.now page.entry.entry self.old.single self.new.single a)) }
         ensures lasting { lasting self.new ≡ lasting self.old }
     {
         match self.replayed(at, page)? {
@@ -310,7 +310,7 @@ where
 
     // Answers for a page that is kept: by what an earlier run has of it, if that is still there and it didn't change.
     fn ask_kept(&mut self, at: &Address) -> Result<Answer<KeptPart>, AllocError>
-        ensures answered { IfOk result (IsTold (lasting self.old) at.now (IsAnswered (lasting self.old) at.now self.old.single self.new.single)) }
+        ensures answered { IfOk result (IsAnswerWith (lasting self.old) at.now (IsAnswered (lasting self.old) at.now self.old.single self.new.single)) }
         ensures lasting { lasting self.new ≡ lasting self.old }
     {
         let Some(earlier) = shared(&self.earlier) else {
