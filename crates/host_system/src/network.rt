@@ -232,7 +232,7 @@ where
         self.asking(settings)
     }
 
-    fn tell(&self, text: &str) {
+    fn report(&self, text: &str) {
         self.failures.say(self.rt, text);
     }
 

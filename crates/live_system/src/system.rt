@@ -124,8 +124,8 @@ pub trait System {
     fn recorder(&self, settings: FetcherSettings) -> Result<Self::Recorder, AllocError>
         ensures { IfOk result (λ recorder. makes_recorder self.now settings recorder) };
 
-    /// The folder at a path. Nothing is made there before the first put. Of files whose links change the bodies are kept as they came, where
-    /// that is said. Fails only if memory runs out.
+    /// The folder at a path. Nothing is made there before the first put. Of files whose links change the bodies are kept as they came, in
+    /// the place that is said. Fails only if memory runs out.
     fn folder(&self, path: &str, originals: Originals) -> Result<Self::Folder, AllocError>
         ensures { IfOk result (opens self.now path.now originals) };
 
@@ -144,7 +144,7 @@ pub trait System {
         ensures { IfOk result (names self.now path.now) };
 
     /// Writes this for a person when the run has ended: lines, each with its end, or nothing.
-    fn tell(&self, _text: &str) {}
+    fn report(&self, _text: &str) {}
 
     /// Who hears how this run goes on.
     fn observer(&self) -> &Self::Observer;

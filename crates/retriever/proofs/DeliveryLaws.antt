@@ -4,7 +4,7 @@ use Rattle.std.specs.Prelude.{Result, Ok, Err}
 use Rattle.std.specs.Io.KnownBytes.{Appends}
 use Rattle.std.proofs.KnownBytes.{Appends-trans}
 use Rattle.retriever.specs.Parts.{IsDelivered}
-use Rattle.retriever.specs.inner.Parts.{IsToldAs, status_told}
+use Rattle.retriever.specs.inner.Parts.{IsWrittenAs, last_status}
 use Rattle.streams.specs.Streams.{AppendsFront}
 
 -- a front of the first of two texts is one of both
@@ -32,13 +32,13 @@ delivered_behind old between new first second wanted status whole (inl (is, appe
 delivered_behind old between new first second wanted status whole (inr (is, front)) = inr (is, front_of_second old between new first second whole front)
 
 -- the second is written after the first
-pub told_behind : {E : Type 0} (old between new : Option (List ℕ)) (first second : List ℕ) (wanted : ℕ) (told : Result ℕ E) → Appends old between first → IsToldAs between new told second wanted
-    → IsToldAs old new told (first ++ second) wanted
+pub told_behind : {E : Type 0} (old between new : Option (List ℕ)) (first second : List ℕ) (wanted : ℕ) (told : Result ℕ E) → Appends old between first → IsWrittenAs between new told second wanted
+    → IsWrittenAs old new told (first ++ second) wanted
 told_behind old between new first second wanted (Ok status) whole (is, appends) = (is, Appends-trans old between new first second whole appends)
 told_behind old between new first second wanted (Err failed) whole front = front_of_second old between new first second whole front
 
 -- what is written is delivered, if nothing more is
-pub told_delivered : {E : Type 0} (old new : Option (List ℕ)) (told : Result ℕ E) (status : ℕ) → status ≡ status_told told → (text : List ℕ) (wanted : ℕ) → IsToldAs old new told text wanted
+pub told_delivered : {E : Type 0} (old new : Option (List ℕ)) (told : Result ℕ E) (status : ℕ) → status ≡ last_status told → (text : List ℕ) (wanted : ℕ) → IsWrittenAs old new told text wanted
     → IsDelivered old new text wanted status
 told_delivered old new (Ok s) status same text wanted (is, appends) = inl (same ∙ is, appends)
 told_delivered old new (Err failed) status same text wanted front = inr (same, front)

@@ -20,7 +20,7 @@ use Rattle.frontier_core.specs.Tables.{Text, keys, IsOnce}
 use Rattle.frontier_core.specs.declared.event.Cause.{Cause}
 use Rattle.frontier_core.specs.declared.event.Cause.TheVariants as why
 use Rattle.frontier_core.specs.declared.event.Event.{Event}
-use Rattle.workers.specs.Asks.{IsTold}
+use Rattle.workers.specs.Asks.{IsOfSite}
 use Rattle.site_records.specs.Records.{RecordedAnswers, GivesAnswer, RecordGivesRules}
 use Rattle.harvest.specs.Gathered.{AreEntries, AreRecords, ArePages}
 use Rattle.harvest.specs.Harvests.{Harvested}
@@ -40,7 +40,7 @@ use Rattle.report.proofs.StatusLaws.{same_status}
 use Rattle.workers.specs.Crews.{AllFit, SomeSays}
 use Rattle.workers.specs.declared.retrieval.Halt.{Halt}
 use Rattle.retriever.specs.Parts.{shown_of}
-use Rattle.retriever.specs.inner.Parts.{HasKinds, IsOutputOf, IsRetrievalTold, IsRead, is_borne_out}
+use Rattle.retriever.specs.inner.Parts.{HasKinds, IsOutputOf, IsRetrievalWritten, IsRead, is_borne_out}
 use Rattle.retriever.specs.Retrieved.{IsPartOf, AreEventsOf, AreShown, HasStopped, Retrieved, Stopped, Finishes}
 use Rattle.retriever.specs.declared.render.RunOutput.{RunOutput}
 use Rattle.std.specs.declared.alloc.AllocError.{AllocError}
@@ -98,7 +98,7 @@ plain_count true rules pages kinds = length-ended_names rules pages kinds
 pub names_count : {B : Type 0} (kind_of : B → BodyKind) (naming : PageNames) (h : Harvested B) (names : List (List ℕ)) → AreNamesOf naming h.kept (kinds_of kind_of h.bodies) names → length names ≡ length h.kept
 names_count kind_of naming h names given = given.count ∙ plain_count naming.has_endings naming.rules h.kept (kinds_of kind_of h.bodies)
 
-told_part : (may_say : Text → Outcome → BodyValue → Type 0) (may_rule : Text → RuleSetValue → Type 0) (whole m : Answers) → Fits may_say may_rule whole → IsTold may_say may_rule m
+told_part : (may_say : Text → Outcome → BodyValue → Type 0) (may_rule : Text → RuleSetValue → Type 0) (whole m : Answers) → Fits may_say may_rule whole → IsOfSite may_say may_rule m
     → IsPartOf m whole
 told_part may_say may_rule whole m fits told = record {
   outcomes = λ u x is. (let (body, says) = told.outcomes u x is in fits.outcomes u x body says);
@@ -182,7 +182,7 @@ pub told_finishes : (order : Order) (may_say : Text → Outcome → BodyValue �
     → IfErr r (λ halt. halt.cause ≡ why.Full → HasTooMany (policy order.plan) (whole_of site)) → (order.workers ≡ 1 → IfErr r (λ halt. halt.cause ≢ why.Mismatch))
     → IfErr r (λ halt. halt.cause ≢ why.Quota)
     → IfOk r (λ h. AreByCrew order.workers h.trace) × IfErr r (λ halt. halt.cause ≢ why.Mismatch → AreByCrew order.workers halt.harvest.trace)
-    → IfOk result (λ output. IsRetrievalTold order.names order.trace r (string_bytes output.text) output.status) → IfOk result (λ output. IsOutputOf order site (string_bytes output.text) output.status)
+    → IfOk result (λ output. IsRetrievalWritten order.names order.trace r (string_bytes output.text) output.status) → IfOk result (λ output. IsOutputOf order site (string_bytes output.text) output.status)
 told_finishes order may_say may_rule site asks (Ok h) (Ok output) fits has is complete stop many never limitless by told =
     let (read, names, naming, text, status) = told in
     record {

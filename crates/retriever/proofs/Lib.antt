@@ -14,7 +14,7 @@ pub mod ProgramLaws
 pub mod LiveLaws
 pub mod FindingLaws
 pub mod LogLaws
-pub mod TellingLaws
+pub mod TargetLaws
 pub mod SavingLaws
 pub mod ResumeLaws
 pub mod UpkeepLaws

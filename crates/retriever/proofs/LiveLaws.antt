@@ -42,7 +42,7 @@ use Rattle.run_mirror.specs.Mirrors.{Kept}
 use Rattle.retriever.specs.Retrieved.{Retrieved, Stopped}
 use Rattle.retriever.specs.Keeping.{Keeping, kinds_of}
 use Rattle.retriever.specs.Site.{AreNamesOf}
-use Rattle.retriever.specs.inner.Parts.{IsRead, IsToldAs, status_told}
+use Rattle.retriever.specs.inner.Parts.{IsRead, IsWrittenAs, last_status}
 use Rattle.retriever.specs.inner.Puts.{IsHarvestPut, IsPutOf, IsStopPut}
 use Rattle.report.specs.Trace.{trace_text}
 use Rattle.retriever.proofs.FoundLaws.{are_lines, records_of}
@@ -159,15 +159,15 @@ part_retrieved crew plan cause h part many by = record {
 
 -- ---- an end
 
-module _ {F B : Type 0} (crew : Crew F B) (order : Order) (old new : Holding) (IsTold : List ℕ → ℕ → Type 0) where
+module _ {F B : Type 0} (crew : Crew F B) (order : Order) (old new : Holding) (IsWritten : List ℕ → ℕ → Type 0) where
   -- an end, with what is shown, and its text is written
-  abbrev pub EndsTold : Type 0
-  EndsTold = (shown : List Event) × (ending : LiveEnd) × EndsLive crew order old new shown ending × IsTold (trace_text shown ++ live_text ending) (live_status ending)
+  abbrev pub EndsWritten : Type 0
+  EndsWritten = (shown : List Event) × (ending : LiveEnd) × EndsLive crew order old new shown ending × IsWritten (trace_text shown ++ live_text ending) (live_status ending)
 
   -- a harvest of which a report with any names is known to be so
   ended : (h : Harvested B) → AreMadeOnce (asks_of crew) → h.plan ≡ Some order.plan
       → ((names : List (List ℕ)) → IsRead h → AreNamesOf order.names h.kept (kinds_of crew.keeps.kind_of h.bodies) names → IsReportLive crew order (answers h.state) h.trace (harvest_lines_of h names) h.bodies)
-      → IsHarvestPut order.converts crew.keeps IsTold order.names order.trace h old new → EndsTold
+      → IsHarvestPut order.converts crew.keeps IsWritten order.names order.trace h old new → EndsWritten
   ended h once follows live (inl (same, told)) = ([], Finished (Stopped why.Memory), (once, inl refl, inl same), told)
   ended h once follows live (inr (read, names, naming, inl (true, put, quiet, told))) =
       let lines = harvest_lines_of h names in (
@@ -181,7 +181,7 @@ module _ {F B : Type 0} (crew : Crew F B) (order : Order) (old new : Holding) (I
           refl,
           put_at crew.keeps order.names h names read naming order.converts true old new (once_held order.plan h read follows) put quiet,
         ),
-        subst (λ (wanted : ℕ). IsTold (trace_text (shown_of order.trace h.trace) ++ report_text lines) wanted) (status_of order h names read follows) told,
+        subst (λ (wanted : ℕ). IsWritten (trace_text (shown_of order.trace h.trace) ++ report_text lines) wanted) (status_of order h names read follows) told,
       )
   ended h once follows live (inr (read, names, naming, inl (false, put, quiet, told))) =
       let lines = harvest_lines_of h names in (
@@ -195,7 +195,7 @@ module _ {F B : Type 0} (crew : Crew F B) (order : Order) (old new : Holding) (I
           refl,
           put_at crew.keeps order.names h names read naming order.converts false old new (once_held order.plan h read follows) put quiet,
         ),
-        subst (λ (text : List ℕ). IsTold text 3) (append_assoc (trace_text (shown_of order.trace h.trace)) (report_text lines) unchanged_line) told,
+        subst (λ (text : List ℕ). IsWritten text 3) (append_assoc (trace_text (shown_of order.trace h.trace)) (report_text lines) unchanged_line) told,
       )
   ended h once follows live (inr (read, names, naming, inr (whole, torn, inl told))) =
       let lines = harvest_lines_of h names in (
@@ -209,7 +209,7 @@ module _ {F B : Type 0} (crew : Crew F B) (order : Order) (old new : Holding) (I
           refl,
           torn_at crew.keeps order.names h names read naming order.converts old new whole (once_held order.plan h read follows) torn,
         ),
-        subst (λ (text : List ℕ). IsTold text 3) (append_assoc (trace_text (shown_of order.trace h.trace)) (report_text lines) (torn_line whole)) told,
+        subst (λ (text : List ℕ). IsWritten text 3) (append_assoc (trace_text (shown_of order.trace h.trace)) (report_text lines) (torn_line whole)) told,
       )
   ended h once follows live (inr (read, names, naming, inr (whole, torn, inr told))) = (
     [],
@@ -238,14 +238,14 @@ module _ {F B : Type 0} (crew : Crew F B) (order : Order) (old new : Holding) (I
 
   -- a front, or nothing because memory ran out: which is no end for the quota
   fronted : (h : Harvested B) → IsStopped (MaySay crew) (MaySayRules crew) order.plan (asks_of crew) why.Quota h → IsPassed order.quota (sum_by crew.keeps.len_of h.bodies)
-      → AreOfCrew crew h.trace → IsHarvestPut order.converts crew.keeps IsTold order.names order.trace h old new → EndsTold
+      → AreOfCrew crew h.trace → IsHarvestPut order.converts crew.keeps IsWritten order.names order.trace h old new → EndsWritten
   fronted h (inl part) passed by put =
       ended h (made_once (asks_of crew) part.once) part.follows (λ names read naming. inr (passed, front crew order.plan order.names h names part read naming by, refl)) put
   fronted h (inr empty) passed by put = (let memory : why.Quota ≡ why.Memory = empty.memory in cc)
 
   stopped : (cause : Cause) (h : Harvested B) → (cause ≢ why.Mismatch → IsStopped (MaySay crew) (MaySayRules crew) order.plan (asks_of crew) cause h) → (cause ≡ why.Full → HasTooMany (policy order.plan) (answers h.state))
       → (length crew.first ≡ 1 → cause ≢ why.Mismatch) → (cause ≡ why.Quota → IsPassed order.quota (sum_by crew.keeps.len_of h.bodies)) → (cause ≢ why.Mismatch → AreOfCrew crew h.trace)
-      → IsStopPut order.converts crew.keeps IsTold order.names order.trace cause h old new → EndsTold
+      → IsStopPut order.converts crew.keeps IsWritten order.names order.trace cause h old new → EndsWritten
   stopped why.Full h stop many one passed by (same, inl told) =
       elim (stop (λ is. cc)) [
         | inl part ↦ (shown_of order.trace h.trace, Finished (Stopped why.Full), (h.trace, part_retrieved crew order.plan why.Full h part many (by (λ is. cc)), refl, same), told)
@@ -269,18 +269,18 @@ module _ {F B : Type 0} (crew : Crew F B) (order : Order) (old new : Holding) (I
 
 module _ {F B : Type 0} (crew : Crew F B) where
   -- what is put and written of what a crew retrieved is an end, by what is known of its fetchers
-  pub crew_ends : (order : Order) (r : Result (Harvested B) (Halt B)) (old new : Holding) (IsTold : List ℕ → ℕ → Type 0) → IfOk r (IsRetrieved (MaySay crew) (MaySayRules crew) order.plan (asks_of crew))
+  pub crew_ends : (order : Order) (r : Result (Harvested B) (Halt B)) (old new : Holding) (IsWritten : List ℕ → ℕ → Type 0) → IfOk r (IsRetrieved (MaySay crew) (MaySayRules crew) order.plan (asks_of crew))
       → IfErr r (λ halt. halt.cause ≢ why.Mismatch → IsStopped (MaySay crew) (MaySayRules crew) order.plan (asks_of crew) halt.cause halt.harvest)
       → IfErr r (λ halt. halt.cause ≡ why.Full → HasTooMany (policy order.plan) (answers halt.harvest.state) × IsOverfull (policy order.plan) halt.harvest.state)
       → (length crew.first ≡ 1 → IfErr r (λ halt. halt.cause ≢ why.Mismatch))
       → IfOk r (λ h. AreOfCrew crew h.trace) × IfErr r (λ halt. halt.cause ≢ why.Mismatch → AreOfCrew crew halt.harvest.trace)
       → KeepsTo order.quota crew.keeps.len_of r
-      → IsPutOf order.converts crew.keeps IsTold order.names order.trace r old new → EndsTold crew order old new IsTold
-  crew_ends order (Ok h) old new IsTold is stop full one by keeps put =
-      ended crew order old new IsTold h (made_once (asks_of crew) is.once) is.follows
+      → IsPutOf order.converts crew.keeps IsWritten order.names order.trace r old new → EndsWritten crew order old new IsWritten
+  crew_ends order (Ok h) old new IsWritten is stop full one by keeps put =
+      ended crew order old new IsWritten h (made_once (asks_of crew) is.once) is.follows
       (λ names read naming. inl (keeps.within, retrieved crew order.plan order.names h names is read naming by.0, refl)) put
-  crew_ends order (Err halt) old new IsTold is stop full one by keeps put =
-      stopped crew order old new IsTold halt.cause halt.harvest stop (λ why. (full why).0) one keeps.beyond by.1 put
+  crew_ends order (Err halt) old new IsWritten is stop full one by keeps put =
+      stopped crew order old new IsWritten halt.cause halt.harvest stop (λ why. (full why).0) one keeps.beyond by.1 put
 
   -- what two clauses say of a crew's trace is what one says
   pub of_crew : (r : Result (Harvested B) (Halt B)) (count : ℕ) → count ≡ length crew.first
@@ -292,8 +292,8 @@ module _ {F B : Type 0} (crew : Crew F B) where
   of_crew (Err halt) count long numbered own = (tt, λ other. (subst (λ (n : ℕ). AreByCrew n halt.harvest.trace) long (numbered.1 other), own.1 other))
 
 -- an end whose text is delivered is a live retrieval
-pub lives_from : {F B E : Type 0} (m : Meaning F B) (keeps : Keeping B) (order : Order) (olds news : List F) (before after : Outside) (told : Result ℕ E) (status : ℕ) → AreLater m olds news → status ≡ status_told told
-    → EndsTold (crew_of m keeps olds news) order before.folder after.folder (IsToldAs before.written after.written told) → LiveRun m keeps order olds before after status
+pub lives_from : {F B E : Type 0} (m : Meaning F B) (keeps : Keeping B) (order : Order) (olds news : List F) (before after : Outside) (told : Result ℕ E) (status : ℕ) → AreLater m olds news → status ≡ last_status told
+    → EndsWritten (crew_of m keeps olds news) order before.folder after.folder (IsWrittenAs before.written after.written told) → LiveRun m keeps order olds before after status
 lives_from m keeps order olds news before after told status later same (shown, ending, ends, written) = record {
   left = news;
   later = later;

@@ -18,8 +18,8 @@ use Rattle.workers.specs.Crews.{AreLater, all_gained, SomeSays, SomeRules}
 use Rattle.workers.specs.Retrieval.{IsRetrieved}
 use Rattle.workers.specs.Sites.{IsCompleteFor}
 use Rattle.workers.specs.declared.retrieval.Halt.{Halt}
-use Rattle.retriever.specs.InputFound.{TellsSite}
-use Rattle.retriever.specs.Rejecting.{IfLog, IsLogOfCrew, IsLogOfEnd, IsLogOfSite, IsLogTaken, IsLogTold, IsRetrievedBy, TakesLog}
+use Rattle.retriever.specs.InputFound.{DescribesSite}
+use Rattle.retriever.specs.Rejecting.{IfLog, IsLogOfCrew, IsLogOfEnd, IsLogOfSite, IsLogTaken, IsLogDescribed, IsRetrievedBy, TakesLog}
 use Rattle.retriever.specs.Site.{whole_of}
 use Rattle.retriever.specs.inner.Parts.{IsOutputOf}
 use Rattle.retriever.specs.declared.render.RunOutput.{RunOutput}
@@ -84,6 +84,6 @@ output_logged order site may_say may_rule asks r log (Ok output) made is complet
 output_logged order site may_say may_rule asks r log (Err short) made is complete same told = tt
 
 -- the same by what is read
-pub log_told : (IsOf : List ℕ → RecordedAnswers → Type 0) (order : Order) (known : Option (List ℕ)) (site : RecordedAnswers) (log : Option (Result (String Global) AllocError)) → TellsSite IsOf known site
-    → IfLog (IsLogOfSite order site) log → IfLog (IsLogTold IsOf order known) log
-log_told IsOf order known site log tells is = if_log (IsLogOfSite order site) (IsLogTold IsOf order known) log (λ text log. (site, tells, log)) is
+pub log_told : (IsOf : List ℕ → RecordedAnswers → Type 0) (order : Order) (known : Option (List ℕ)) (site : RecordedAnswers) (log : Option (Result (String Global) AllocError)) → DescribesSite IsOf known site
+    → IfLog (IsLogOfSite order site) log → IfLog (IsLogDescribed IsOf order known) log
+log_told IsOf order known site log describes is = if_log (IsLogOfSite order site) (IsLogDescribed IsOf order known) log (λ text log. (site, describes, log)) is

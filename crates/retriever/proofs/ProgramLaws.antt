@@ -13,7 +13,7 @@ use Rattle.options.specs.declared.order.Source.TheVariants as source
 use Rattle.retriever.specs.Advice.{said_of}
 use Rattle.retriever.specs.Order.{IsRefused}
 use Rattle.retriever.specs.Parts.{IsFaultDelivered}
-use Rattle.retriever.specs.Program.{Outputs, IsExplained, IsFaultTold, IsQuietFor, IsUndone}
+use Rattle.retriever.specs.Program.{Outputs, IsExplained, IsFaultReported, IsQuietFor, IsUndone}
 use Rattle.retriever.specs.inner.Program.{Streams, Starts}
 use Rattle.retriever.specs.Run.{Runs}
 use Rattle.streams.specs.Streams.{AppendsFront}
@@ -75,7 +75,7 @@ pub runs_memory : (words : List (List ℕ)) (known old new : Option (List ℕ)) 
 runs_memory words known old new status refusal = runs_refused words known old new fault.Memory status (ends_memory words known) refusal
 
 pub told_memory : {E : Type 0} (words : List (List ℕ)) (before after : Outputs E) (status : ℕ) → after.errors ≡ before.errors → IsFaultDelivered before.written after.written fault.Memory status
-    → IsFaultTold words before after status
+    → IsFaultReported words before after status
 told_memory words before after status same (inl delivered) = (fault.Line line.Memory, inr (inl refl), inr (delivered, same))
 told_memory words before after status same (inr delivered) = (fault.Line line.Memory, inr (inl refl), inr (delivered, same))
 

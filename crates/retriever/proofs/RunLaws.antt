@@ -12,13 +12,13 @@ use Rattle.options.specs.declared.order.Order.{Order}
 use Rattle.options.specs.declared.order.Source.{Source}
 use Rattle.options.specs.declared.order.Source.TheVariants as source
 use Rattle.report.specs.Trace.{trace_text}
-use Rattle.retriever.specs.InputFound.{Form, TellsFault, IsFoundOf, FindsIn}
+use Rattle.retriever.specs.InputFound.{Form, EndsInFault, IsFoundOf, FindsIn}
 use Rattle.retriever.specs.Order.{IsInputOrder, IsRefused}
 use Rattle.retriever.specs.Parts.{IsDelivered, IsFaultDelivered}
 use Rattle.retriever.specs.inner.Parts.{IsOutput, IsUnfit}
 use Rattle.retriever.specs.Retrieved.{Finish, Retrieved, Stopped, Finishes, AreShown, AreEventsOf, HasStopped}
 use Rattle.retriever.specs.Run.{Comes, Ending, EndsFor, Failed, Ended, Runs, ending_text, ending_status}
-use Rattle.retriever.specs.Site.{IsToldBy, IsWrongBy, whole_of}
+use Rattle.retriever.specs.Site.{IsDescribedBy, IsWrongBy, whole_of}
 use Rattle.streams.specs.Streams.{IsInput}
 use Rattle.retriever.specs.declared.fault.Fault.{Fault}
 use Rattle.retriever.specs.declared.fault.Fault.TheVariants as fault
@@ -101,7 +101,7 @@ ends_refused words known wrong refused = let (input, is) = some_input known in (
 
 -- ---- the input
 
-pub ends_input : (words : List (List ℕ)) (known : Option (List ℕ)) (order : Order) (wrong : Fault) → IsInputOrder words order → TellsFault (IsWrongBy order.source order.links) known wrong
+pub ends_input : (words : List (List ℕ)) (known : Option (List ℕ)) (order : Order) (wrong : Fault) → IsInputOrder words order → EndsInFault (IsWrongBy order.source order.links) known wrong
     → EndsFor words known (Failed wrong)
 ends_input words known order (fault.Line w) ordered told = absurd told
 ends_input words known order fault.NotText ordered told = absurd told
@@ -120,12 +120,12 @@ ends_unfit words known order wrong says (inr (not, told)) = ends_input words kno
 -- ---- the retrieval
 
 -- an input describes no site on the network
-told_not_live : (order : Order) (known : Option (List ℕ)) (text : List ℕ) (status : ℕ) → IsOutput (IsToldBy order.source order.links) order known text status → order.source ≢ source.Live
-told_not_live order known text status (site, (input, is, within, told), output) = λ live. subst (λ (s : Source). IsToldBy s order.links input site) live told
+told_not_live : (order : Order) (known : Option (List ℕ)) (text : List ℕ) (status : ℕ) → IsOutput (IsDescribedBy order.source order.links) order known text status → order.source ≢ source.Live
+told_not_live order known text status (site, (input, is, within, told), output) = λ live. subst (λ (s : Source). IsDescribedBy s order.links input site) live told
 
 -- what is written of the retrieval is the text of its ending
 pub ends_output : (words : List (List ℕ)) (known : Option (List ℕ)) (order : Order) (text : List ℕ) (status : ℕ) → order_of words ≡ Ok (ordered_by order)
-    → IsOutput (IsToldBy order.source order.links) order known text status
+    → IsOutput (IsDescribedBy order.source order.links) order known text status
     → (ending : Ending) × EndsFor words known ending × (text ≡ ending_text ending) × (status ≡ ending_status ending)
 ends_output words known order text status says (site, (input, is, within, told), output) = (
   Ended (trace_text output.shown) output.finish,
@@ -141,7 +141,7 @@ delivered before after text wanted status ending is is_status told =
     subst (λ (n : ℕ). IsDelivered before after (ending_text ending) n status) is_status (subst (λ (t : List ℕ). IsDelivered before after t wanted status) is told)
 
 pub runs_output : (words : List (List ℕ)) (known before after : Option (List ℕ)) (order : Order) (text : List ℕ) (wanted status : ℕ) → order_of words ≡ Ok (ordered_by order)
-    → IsOutput (IsToldBy order.source order.links) order known text wanted → IsDelivered before after text wanted status → Runs words known before after status
+    → IsOutput (IsDescribedBy order.source order.links) order known text wanted → IsDelivered before after text wanted status → Runs words known before after status
 runs_output words known before after order text wanted status says output told =
     let (ending, ends, is, is_status) = ends_output words known order text wanted says output in
     record { ending = ending; ends = ends; written = delivered before after text wanted status ending is is_status told }
@@ -176,37 +176,37 @@ none_unordered order site shown (Stopped cause.Mismatch) (several, none) = λ is
 none_unordered order site shown (Stopped cause.Quota) never = absurd never
 
 module _ (form : Form) (order : Order) (known before after : Option (List ℕ)) where
-  finds_output : (text : List ℕ) (wanted status : ℕ) → IsOutput form.tells order known text wanted → IsDelivered before after text wanted status → FindsIn form order known before after status
-  finds_output text wanted status (site, tells, output) told = record {
+  finds_output : (text : List ℕ) (wanted status : ℕ) → IsOutput form.describes order known text wanted → IsDelivered before after text wanted status → FindsIn form order known before after status
+  finds_output text wanted status (site, describes, output) told = record {
     ending = Ended (trace_text output.shown) output.finish;
     ends = (
       (λ off. ap (λ (events : List Event). trace_text events) (none_unordered order site output.shown output.finish output.finishes off)),
       site,
-      tells,
+      describes,
       found_of order site output.shown output.finish output.finishes,
     );
     written = delivered before after text wanted status (Ended (trace_text output.shown) output.finish) output.text_is output.status_is told;
   }
 
-  finds_fault : (wrong : Fault) (status : ℕ) → TellsFault form.has_fault known wrong → IsFaultDelivered before after wrong status → FindsIn form order known before after status
-  finds_fault wrong status tells (inl told) = record { ending = Failed wrong; ends = tells; written = told }
-  finds_fault wrong status tells (inr told) = record { ending = Failed fault.Memory; ends = tt; written = told }
+  finds_fault : (wrong : Fault) (status : ℕ) → EndsInFault form.has_fault known wrong → IsFaultDelivered before after wrong status → FindsIn form order known before after status
+  finds_fault wrong status describes (inl told) = record { ending = Failed wrong; ends = describes; written = told }
+  finds_fault wrong status describes (inr told) = record { ending = Failed fault.Memory; ends = tt; written = told }
 
 -- the form that is read, by the source
 abbrev form_by : Source → LinkRules → Form
-form_by s links = record { tells = IsToldBy s links; has_fault = IsWrongBy s links }
+form_by s links = record { describes = IsDescribedBy s links; has_fault = IsWrongBy s links }
 
 -- the same by the order's source
 pub finds_told : (s : Source) (order : Order) (known before after : Option (List ℕ)) (text : List ℕ) (wanted status : ℕ) → order.source ≡ s
-    → IsOutput (IsToldBy order.source order.links) order known text wanted → IsDelivered before after text wanted status
+    → IsOutput (IsDescribedBy order.source order.links) order known text wanted → IsDelivered before after text wanted status
     → FindsIn (form_by s order.links) order known before after status
 finds_told s order known before after text wanted status is output told =
     finds_output (form_by s order.links) order known before after text wanted status
-    (subst (λ (x : Source). IsOutput (IsToldBy x order.links) order known text wanted) is output) told
+    (subst (λ (x : Source). IsOutput (IsDescribedBy x order.links) order known text wanted) is output) told
 
 pub finds_unfit : (s : Source) (order : Order) (known before after : Option (List ℕ)) (wrong : Fault) (status : ℕ) → order.source ≡ s → (s ≢ source.Live) → IsUnfit order known wrong
     → IsFaultDelivered before after wrong status → FindsIn (form_by s order.links) order known before after status
 finds_unfit s order known before after wrong status is other (inl (live, none)) told = absurd (other (sym is ∙ live))
-finds_unfit s order known before after wrong status is other (inr (not, tells)) told =
+finds_unfit s order known before after wrong status is other (inr (not, describes)) told =
     finds_fault (form_by s order.links) order known before after wrong status
-    (subst (λ (x : Source). TellsFault (IsWrongBy x order.links) known wrong) is tells) told
+    (subst (λ (x : Source). EndsInFault (IsWrongBy x order.links) known wrong) is describes) told

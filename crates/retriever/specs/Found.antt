@@ -17,7 +17,7 @@ use Rattle.frontier_core.specs.Plans.{policy}
 use Rattle.frontier_core.specs.Readers.{Recorded}
 use Rattle.frontier_core.specs.declared.event.Cause.TheVariants as cause
 use Rattle.harvest.specs.Pages.{IsBodyOf}
-use Rattle.workers.specs.Asks.{IsTold}
+use Rattle.workers.specs.Asks.{IsOfSite}
 use Rattle.workers.specs.Crews.{AreLater, all_gained, SomeSays, SomeRules}
 use Rattle.workers.specs.Found.{AreMadeOnce, AreAsked}
 use Rattle.workers.specs.Quotas.{IsPassed}
@@ -75,7 +75,7 @@ pub record IsPartFound {F B : Type 0} (crew : Crew F B) (plan : Plan) (recorded_
   pub once : AreMadeOnce (asks_of crew)
   pub wanted : (u : Text) → Contains (asks_of crew) (ask.Page u) → IsWanted (policy plan) recorded_as u
   pub needed : (o : Text) → Contains (asks_of crew) (ask.Rules o) → IsNeeded (policy plan) recorded_as o
-  pub told : IsTold (MaySay crew) (MaySayRules crew) recorded_as
+  pub told : IsOfSite (MaySay crew) (MaySayRules crew) recorded_as
 
 -- A front of what is to be found: what is recorded of what the fetchers were asked before nothing more was requested. Each line is of an
 -- address to which a route of what is recorded leads, and its page, if it has a name, has the body that the fetchers may have answered.

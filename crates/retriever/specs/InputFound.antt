@@ -22,31 +22,31 @@ use Rattle.retriever.specs.Site.{IsMapOf, IsRecordOf, AreLines, AreNamed, kind_a
 
 -- a form of inputs: the site that an input describes, and the faults that it has
 pub record Form : Type 1 where
-  pub tells : List ℕ → RecordedAnswers → Type 0
+  pub describes : List ℕ → RecordedAnswers → Type 0
   pub has_fault : List ℕ → InputFault → Type 0
 
 -- the form of maps
 abbrev pub map_form : Form
-map_form = record { tells = IsMapOf; has_fault = IsFaultOfMap }
+map_form = record { describes = IsMapOf; has_fault = IsFaultOfMap }
 
 -- the form of records, by which links of pages are taken
 abbrev pub record_form : LinkRules → Form
-record_form links = record { tells = IsRecordOf links; has_fault = IsFaultOfRecord links }
+record_form links = record { describes = IsRecordOf links; has_fault = IsFaultOfRecord links }
 
 -- what the reader has left describes this site
-abbrev pub TellsSite : (List ℕ → RecordedAnswers → Type 0) → Option (List ℕ) → RecordedAnswers → Type 0
-TellsSite IsOf known site = (input : List ℕ) × IsInput known input × (length input ≤ MAX_INPUT) × IsOf input site
+abbrev pub DescribesSite : (List ℕ → RecordedAnswers → Type 0) → Option (List ℕ) → RecordedAnswers → Type 0
+DescribesSite IsOf known site = (input : List ℕ) × IsInput known input × (length input ≤ MAX_INPUT) × IsOf input site
 
 -- what the reader has left results in this fault
-abbrev pub TellsFault : (List ℕ → InputFault → Type 0) → Option (List ℕ) → Fault → Type 0
-TellsFault IsWrong known (fault.Line wrong) = ⊥
-TellsFault IsWrong known fault.NotText = ⊥
-TellsFault IsWrong known fault.NoSite = ⊥
-TellsFault IsWrong known (fault.Read reading.Long) = (input : List ℕ) × IsInput known input × (MAX_INPUT < length input)
-TellsFault IsWrong known (fault.Read reading.Failed) = Unit {0}
-TellsFault IsWrong known (fault.Read reading.Memory) = Unit {0}
-TellsFault IsWrong known (fault.Input wrong) = (input : List ℕ) × IsInput known input × (length input ≤ MAX_INPUT) × IsWrong input wrong
-TellsFault IsWrong known fault.Memory = Unit {0}
+abbrev pub EndsInFault : (List ℕ → InputFault → Type 0) → Option (List ℕ) → Fault → Type 0
+EndsInFault IsWrong known (fault.Line wrong) = ⊥
+EndsInFault IsWrong known fault.NotText = ⊥
+EndsInFault IsWrong known fault.NoSite = ⊥
+EndsInFault IsWrong known (fault.Read reading.Long) = (input : List ℕ) × IsInput known input × (MAX_INPUT < length input)
+EndsInFault IsWrong known (fault.Read reading.Failed) = Unit {0}
+EndsInFault IsWrong known (fault.Read reading.Memory) = Unit {0}
+EndsInFault IsWrong known (fault.Input wrong) = (input : List ℕ) × IsInput known input × (length input ≤ MAX_INPUT) × IsWrong input wrong
+EndsInFault IsWrong known fault.Memory = Unit {0}
 
 -- This is found of a whole site: the lines of its report, or more addresses than the plan lets be held. Memory may run out at any
 -- time, and a check of several workers may fail. No quota counts.
@@ -60,9 +60,9 @@ IsFoundOf order site (Stopped cause.Quota) = ⊥
 
 -- what the reader has left results in this ending
 abbrev pub EndsOn : Form → Order → Option (List ℕ) → Ending → Type 0
-EndsOn form order known (Failed wrong) = TellsFault form.has_fault known wrong
+EndsOn form order known (Failed wrong) = EndsInFault form.has_fault known wrong
 EndsOn form order known (Ended trace finish) =
-    (order.trace ≡ false → trace ≡ []) × (site : RecordedAnswers) × TellsSite form.tells known site × IsFoundOf order site finish
+    (order.trace ≡ false → trace ≡ []) × (site : RecordedAnswers) × DescribesSite form.describes known site × IsFoundOf order site finish
 
 -- A run by an order, of an input of a form: it has an ending, whose text the writer gained, or a front of it if it failed.
 pub record FindsIn (form : Form) (order : Order) (known old new : Option (List ℕ)) (status : ℕ) : Type 0 where

@@ -6,7 +6,7 @@ pub mod Run
 pub mod Parts
 pub mod InputFound
 pub mod Advice
-pub mod Telling
+pub mod OutputTargets
 pub mod Lists
 pub mod Cookies
 pub mod Program

@@ -41,8 +41,8 @@ IsExplained words wrong before after status =
     ⊎ (IsDelivered before.written after.written (codes "stopped memory\n") 1 status × (after.errors ≡ before.errors))
 
 -- what is wrong with the words is reported, in its line and to a person
-abbrev pub IsFaultTold : {E : Type 0} → List (List ℕ) → Outputs E → Outputs E → ℕ → Type 0
-IsFaultTold words before after status = (wrong : Fault) × IsRefused words wrong × IsExplained words wrong before after status
+abbrev pub IsFaultReported : {E : Type 0} → List (List ℕ) → Outputs E → Outputs E → ℕ → Type 0
+IsFaultReported words before after status = (wrong : Fault) × IsRefused words wrong × IsExplained words wrong before after status
 
 -- ---- a site on the network
 

@@ -20,9 +20,9 @@ use Rattle.workers.specs.Crews.{AreLater, all_gained, SomeSays, SomeRules}
 use Rattle.workers.specs.Retrieval.{IsRetrieved}
 use Rattle.workers.specs.Sites.{IsCompleteFor}
 use Rattle.workers.specs.declared.retrieval.Halt.{Halt}
-use Rattle.retriever.specs.InputFound.{TellsSite}
+use Rattle.retriever.specs.InputFound.{DescribesSite}
 use Rattle.retriever.specs.Saving.{resuming_means, resuming_of}
-use Rattle.retriever.specs.Site.{IsToldBy, whole_of}
+use Rattle.retriever.specs.Site.{IsDescribedBy, whole_of}
 use Rattle.retriever.specs.Systems.{Means, IsResumed, settings_of}
 
 -- a harvest that was read, and its log
@@ -46,12 +46,12 @@ pub record IsLogOfSite (order : Order) (site : RecordedAnswers) (text : List ℕ
   pub read : IsLogRead harvest text
 
 -- the same of the site that what the reader has left is by this reading
-abbrev pub IsLogTold : (List ℕ → RecordedAnswers → Type 0) → Order → Option (List ℕ) → List ℕ → Type 0
-IsLogTold IsOf order known text = (site : RecordedAnswers) × TellsSite IsOf known site × IsLogOfSite order site text
+abbrev pub IsLogDescribed : (List ℕ → RecordedAnswers → Type 0) → Order → Option (List ℕ) → List ℕ → Type 0
+IsLogDescribed IsOf order known text = (site : RecordedAnswers) × DescribesSite IsOf known site × IsLogOfSite order site text
 
 -- the same by the order's source
 abbrev pub IsLogOfInput : Order → Option (List ℕ) → List ℕ → Type 0
-IsLogOfInput order known text = IsLogTold (IsToldBy order.source order.links) order known text
+IsLogOfInput order known text = IsLogDescribed (IsDescribedBy order.source order.links) order known text
 
 -- ---- of a site on the network
 

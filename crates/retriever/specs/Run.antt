@@ -19,7 +19,7 @@ use Rattle.retriever.specs.Order.{IsInputOrder, AreForInput, AreForLive}
 use Rattle.report.specs.ExitStatus.{exit_status, outcomes_in}
 use Rattle.report.specs.Report.{report_text}
 use Rattle.retriever.specs.Retrieved.{Finish, Retrieved, Stopped, Finishes}
-use Rattle.retriever.specs.Site.{IsToldBy, IsWrongBy}
+use Rattle.retriever.specs.Site.{IsDescribedBy, IsWrongBy}
 use Rattle.streams.specs.Streams.{IsInput, AppendsFront}
 use Rattle.report.specs.Trace.{cause_word, trace_text}
 use Rattle.retriever.specs.declared.fault.Fault.{Fault}
@@ -150,7 +150,7 @@ ending_status (Ended trace finish) = finish_status finish
 -- the input describes a site of which the retrieval that is ordered results in this
 abbrev pub FinishesOn : Order → List ℕ → List Event → Finish → Type 0
 FinishesOn order input shown finish =
-    (length input ≤ MAX_INPUT) × (site : RecordedAnswers) × IsToldBy order.source order.links input site × Finishes order site shown finish
+    (length input ≤ MAX_INPUT) × (site : RecordedAnswers) × IsDescribedBy order.source order.links input site × Finishes order site shown finish
 
 -- the words and the input result in this ending
 abbrev pub Ends : List (List ℕ) → List ℕ → Ending → Type 0

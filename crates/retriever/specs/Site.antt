@@ -29,8 +29,8 @@ abbrev pub with_bare_bodies : SiteAnswers → RecordedAnswers
 with_bare_bodies site = record { answer = λ at. record { outcome = site.outcome at; body = bare_body (site.outcome at) }; rules = site.rules }
 
 -- the site that the lines of a map describe
-abbrev pub site_told : List Statement → RecordedAnswers
-site_told said = with_bare_bodies (says_of (answers_of said) (rules_of said))
+abbrev pub site_described : List Statement → RecordedAnswers
+site_described said = with_bare_bodies (says_of (answers_of said) (rules_of said))
 
 -- the site that the entries of a record describe
 abbrev pub site_recorded : List Entry → RecordedAnswers
@@ -38,17 +38,17 @@ site_recorded said = record_says (recorded_answers said) (recorded_rules said)
 
 -- the input is a map, of this site
 abbrev pub IsMapOf : List ℕ → RecordedAnswers → Type 0
-IsMapOf input site = (said : List Statement) × IsMap (text_lines_of input) said × (site ≡ site_told said)
+IsMapOf input site = (said : List Statement) × IsMap (text_lines_of input) said × (site ≡ site_described said)
 
 -- the input is a record of this site, if these links of its pages are taken
 abbrev pub IsRecordOf : LinkRules → List ℕ → RecordedAnswers → Type 0
 IsRecordOf links input site = (said : List Entry) × IsRecord links input said × (site ≡ site_recorded said)
 
 -- the input describes this site, as the source says
-abbrev pub IsToldBy : Source → LinkRules → List ℕ → RecordedAnswers → Type 0
-IsToldBy source.Map links input site = IsMapOf input site
-IsToldBy source.Recorded links input site = IsRecordOf links input site
-IsToldBy source.Live links input site = ⊥
+abbrev pub IsDescribedBy : Source → LinkRules → List ℕ → RecordedAnswers → Type 0
+IsDescribedBy source.Map links input site = IsMapOf input site
+IsDescribedBy source.Recorded links input site = IsRecordOf links input site
+IsDescribedBy source.Live links input site = ⊥
 
 -- what is wrong with an input that describes no site, as the source says
 abbrev pub IsWrongBy : Source → LinkRules → List ℕ → InputFault → Type 0

@@ -5,11 +5,11 @@ ghost use Rattle.site_records.specs.Records.{says_of as record_says, IsFault as 
 ghost use Rattle.workers.specs.Sites.{Fits};
 ghost use Rattle.options.specs.Order.{order_of, ordered_by};
 ghost use Rattle.retriever.specs.Order.{AreForInput};
-ghost use Rattle.retriever.specs.InputFound.{TellsSite, TellsFault, FindsIn, map_form, record_form};
-ghost use Rattle.retriever.specs.Site.{IsMapOf, IsRecordOf, IsToldBy, whole_of, with_bare_bodies};
+ghost use Rattle.retriever.specs.InputFound.{DescribesSite, EndsInFault, FindsIn, map_form, record_form};
+ghost use Rattle.retriever.specs.Site.{IsMapOf, IsRecordOf, IsDescribedBy, whole_of, with_bare_bodies};
 ghost use Rattle.retriever.specs.Parts.{IsDelivered, IsFaultDelivered};
 ghost use Rattle.retriever.specs.inner.Parts.{HasKinds, IsOutput, IsOutputOf, IsUnfit};
-ghost use Rattle.retriever.specs.Rejecting.{IfLog, IsLogOfInput, IsLogOfSite, IsLogTaken, IsLogTold};
+ghost use Rattle.retriever.specs.Rejecting.{IfLog, IsLogOfInput, IsLogOfSite, IsLogTaken, IsLogDescribed};
 ghost use Rattle.retriever.specs.Run.{Runs};
 
 use crate::copies::{Copied, copies_of};
@@ -34,8 +34,8 @@ pub(crate) const MAX_INPUT: usize = 1_073_741_824;
 
 // The site of the map that is the input.
 fn map_of<R: Read>(alloc: Global, reader: &mut R) -> Result<MapSite, Fault>
-    ensures ok { IfOk result (λ site. TellsSite IsMapOf (R.remaining reader.old) (with_bare_bodies (says_of site.answers site.rules))) }
-    ensures err { IfErr result (TellsFault IsFaultOfMap (R.remaining reader.old)) }
+    ensures ok { IfOk result (λ site. DescribesSite IsMapOf (R.remaining reader.old) (with_bare_bodies (says_of site.answers site.rules))) }
+    ensures err { IfErr result (EndsInFault IsFaultOfMap (R.remaining reader.old)) }
 {
     let input = read_input(alloc, reader, MAX_INPUT)?;
     Ok(MapSite::read(alloc, input.as_slice())?)
@@ -47,8 +47,8 @@ fn record_of<R: Read>(
     reader: &mut R,
     links: LinkRules,
 ) -> Result<RecordedSite, Fault>
-    ensures ok { IfOk result (λ site. TellsSite (IsRecordOf links) (R.remaining reader.old) (record_says site.answers site.rules)) }
-    ensures err { IfErr result (TellsFault (IsFaultOfRecord links) (R.remaining reader.old)) }
+    ensures ok { IfOk result (λ site. DescribesSite (IsRecordOf links) (R.remaining reader.old) (record_says site.answers site.rules)) }
+    ensures err { IfErr result (EndsInFault (IsFaultOfRecord links) (R.remaining reader.old)) }
 {
     let input = read_input(alloc, reader, MAX_INPUT)?;
     Ok(RecordedSite::read(alloc, input.as_slice(), links)?)
@@ -89,8 +89,8 @@ fn output_of_map<H: Threads + Wait + Sync, R: Read>(
     reader: &mut R,
 ) -> Result<RunOutput, Fault>
     ensures ok { IfOk result (λ output. IsOutput IsMapOf order.now (R.remaining reader.old) (string_bytes output.text) output.status) }
-    ensures rejected { IfOk result (λ output. IfLog (IsLogTold IsMapOf order.now (R.remaining reader.old)) output.rejected) }
-    ensures err { IfErr result (TellsFault IsFaultOfMap (R.remaining reader.old)) }
+    ensures rejected { IfOk result (λ output. IfLog (IsLogDescribed IsMapOf order.now (R.remaining reader.old)) output.rejected) }
+    ensures err { IfErr result (EndsInFault IsFaultOfMap (R.remaining reader.old)) }
 {
     let site = map_of(alloc, reader)?;
     let told = retrieve(rt, alloc, order, &site);
@@ -106,8 +106,8 @@ fn output_of_record<H: Threads + Wait + Sync, R: Read>(
     reader: &mut R,
 ) -> Result<RunOutput, Fault>
     ensures ok { IfOk result (λ output. IsOutput (IsRecordOf order.now.links) order.now (R.remaining reader.old) (string_bytes output.text) output.status) }
-    ensures rejected { IfOk result (λ output. IfLog (IsLogTold (IsRecordOf order.now.links) order.now (R.remaining reader.old)) output.rejected) }
-    ensures err { IfErr result (TellsFault (IsFaultOfRecord order.now.links) (R.remaining reader.old)) }
+    ensures rejected { IfOk result (λ output. IfLog (IsLogDescribed (IsRecordOf order.now.links) order.now (R.remaining reader.old)) output.rejected) }
+    ensures err { IfErr result (EndsInFault (IsFaultOfRecord order.now.links) (R.remaining reader.old)) }
 {
     let site = record_of(alloc, reader, order.links)?;
     let told = retrieve(rt, alloc, order, &site);
@@ -122,7 +122,7 @@ fn output_of<H: Threads + Wait + Sync, R: Read>(
     order: &Order,
     reader: &mut R,
 ) -> Result<RunOutput, Fault>
-    ensures ok { IfOk result (λ output. IsOutput (IsToldBy order.now.source order.now.links) order.now (R.remaining reader.old) (string_bytes output.text) output.status) }
+    ensures ok { IfOk result (λ output. IsOutput (IsDescribedBy order.now.source order.now.links) order.now (R.remaining reader.old) (string_bytes output.text) output.status) }
     ensures rejected { IfOk result (λ output. IfLog (IsLogOfInput order.now (R.remaining reader.old)) output.rejected) }
     ensures err { IfErr result (IsUnfit order.now (R.remaining reader.old)) }
     ensures unread { order.now.source ≡ Source.Live → reader.new ≡ reader.old }

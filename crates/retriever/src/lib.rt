@@ -9,9 +9,9 @@ pub use crate::environment::{
 };
 pub use crate::input_run::{run, run_of_order};
 pub use crate::live_run::live;
+pub use crate::output_targets::{OutputTargets, targets_of};
 pub use crate::program::run_program;
 pub use crate::saved_run::live_resumed;
-pub use crate::telling::{OutputTargets, telling_of};
 pub use live_system::{HoldFault, System};
 pub use streams::{ReadInputFault, read_input};
 
@@ -23,10 +23,10 @@ mod link_change;
 mod live_order;
 mod live_run;
 mod moves;
+mod output_targets;
 mod program;
 mod quota;
 mod rejected;
 mod render;
 mod resume_fault;
 mod saved_run;
-mod telling;

@@ -12,8 +12,8 @@ ghost use Rattle.retriever.specs.inner.Systems.{AreResuming, is_plain};
 
 use crate::input_run::{MAX_INPUT, deliver};
 use crate::live_run::live_shown;
-use crate::moves::tell_moves;
-use crate::quota::tell_quota;
+use crate::moves::report_moves;
+use crate::quota::report_quota;
 use crate::rejected::{hand_over, log_of};
 use crate::resume_fault::{ResumeFault, resume_status, resume_text};
 use crate::saved_run::{live_saved, resuming};
@@ -121,7 +121,7 @@ fn end_index<S: System, B: Drop>(system: &S, retrieved: &Result<Harvest<B>, Halt
 }
 
 // Retrieves the live site that the order says, by these fetchers, into a folder.
-fn live_into<
+fn run_into<
     H: Threads + Wait + Sync,
     S: System,
     F: Fetcher + Send,
@@ -148,8 +148,8 @@ where
 {
     let observer = system.observer();
     let (status, retrieved) = live_shown(rt, alloc, order, fetchers, folder, writer, observer);
-    tell_moves(alloc, system, &retrieved);
-    tell_quota(system, &retrieved);
+    report_moves(alloc, system, &retrieved);
+    report_quota(system, &retrieved);
     hand_over(log_of(alloc, order, &retrieved), log);
     end_index(system, &retrieved);
     keep_to_the_end(retrieved);
@@ -164,7 +164,7 @@ fn begin_naming<S: System>(alloc: Global, system: &S, order: &Order) -> Result<(
 }
 
 // Retrieves the live site that the order says, by fetchers of the system, into its folder.
-fn live_plainly<H: Threads + Wait + Sync, S: System, W: Write, L: RejectedLog>(
+fn run_plain<H: Threads + Wait + Sync, S: System, W: Write, L: RejectedLog>(
     rt: &H,
     alloc: Global,
     system: &S,
@@ -179,7 +179,7 @@ fn live_plainly<H: Threads + Wait + Sync, S: System, W: Write, L: RejectedLog>(
     begin_naming(alloc, system, order)?;
     let fetchers = fetchers_of(alloc, system, order)?;
     let mut folder = system.folder(order.prefix.as_str(), originals_of(order))?;
-    Ok(live_into(rt, alloc, system, order, fetchers, &mut folder, writer, log))
+    Ok(run_into(rt, alloc, system, order, fetchers, &mut folder, writer, log))
 }
 
 // Fetchers for the order's workers that ask those of the system for what the record doesn't state.
@@ -198,7 +198,7 @@ fn resumed_of<'a, S: System>(
 }
 
 // The same by such fetchers.
-fn live_again<H: Threads + Wait + Sync, S: System, W: Write, L: RejectedLog>(
+fn run_recorded<H: Threads + Wait + Sync, S: System, W: Write, L: RejectedLog>(
     rt: &H,
     alloc: Global,
     system: &S,
@@ -214,11 +214,11 @@ fn live_again<H: Threads + Wait + Sync, S: System, W: Write, L: RejectedLog>(
 {
     let resumed = resumed_of(alloc, system, order, recorded, false)?;
     let mut folder = system.folder(order.prefix.as_str(), originals_of(order))?;
-    Ok(live_into(rt, alloc, system, order, resumed, &mut folder, writer, log))
+    Ok(run_into(rt, alloc, system, order, resumed, &mut folder, writer, log))
 }
 
 // The same, and what the record says and these fetchers note is saved at the path.
-fn live_saving<H: Threads + Wait + Sync, S: System, W: Write, L: RejectedLog>(
+fn run_saving<H: Threads + Wait + Sync, S: System, W: Write, L: RejectedLog>(
     rt: &H,
     alloc: Global,
     system: &S,
@@ -247,8 +247,8 @@ fn live_saving<H: Threads + Wait + Sync, S: System, W: Write, L: RejectedLog>(
         &mut saved,
         system.observer(),
     );
-    tell_moves(alloc, system, &retrieved);
-    tell_quota(system, &retrieved);
+    report_moves(alloc, system, &retrieved);
+    report_quota(system, &retrieved);
     hand_over(log_of(alloc, order, &retrieved), log);
     keep_to_the_end(retrieved);
     Ok(status)
@@ -311,7 +311,7 @@ fn resumption_of<S: System>(
 }
 
 // Retrieves with what is recorded, and saves if the order says so.
-fn live_with<H: Threads + Wait + Sync, S: System, W: Write, L: RejectedLog>(
+fn run_on_record<H: Threads + Wait + Sync, S: System, W: Write, L: RejectedLog>(
     rt: &H,
     alloc: Global,
     system: &S,
@@ -326,7 +326,7 @@ fn live_with<H: Threads + Wait + Sync, S: System, W: Write, L: RejectedLog>(
     ensures logged { IsLogTaken (IsLogLive (means S.System system.now S.Fetcher.Fetcher S.Recorder.Fetcher S.Recorder.noted (kept_as S.Body.kind_of S.Body.len_of S.Folder.holds) S.Folder.Folder S.Record.Write) order.now) (L.contents log.old) (L.contents log.new) }
 {
     match &order.save {
-        Some(path) => live_saving(
+        Some(path) => run_saving(
             rt,
             alloc,
             system,
@@ -336,7 +336,7 @@ fn live_with<H: Threads + Wait + Sync, S: System, W: Write, L: RejectedLog>(
             writer,
             log,
         ),
-        None => live_again(rt, alloc, system, order, recorded, writer, log),
+        None => run_recorded(rt, alloc, system, order, recorded, writer, log),
     }
 }
 
@@ -377,7 +377,7 @@ fn begin_index<S: System>(system: &S, order: &Order) -> Result<(), ResumeFault>
 }
 
 // Retrieves as the order says. The error is why its record can't be resumed, or that memory ran out.
-fn live_in<H: Threads + Wait + Sync, S: System, W: Write, L: RejectedLog>(
+fn run_by_order<H: Threads + Wait + Sync, S: System, W: Write, L: RejectedLog>(
     rt: &H,
     alloc: Global,
     system: &S,
@@ -392,11 +392,11 @@ fn live_in<H: Threads + Wait + Sync, S: System, W: Write, L: RejectedLog>(
 {
     if is_plain(order) {
         begin_index(system, order)?;
-        return Ok(live_plainly(rt, alloc, system, order, writer, log)?);
+        return Ok(run_plain(rt, alloc, system, order, writer, log)?);
     }
     hold(system, order)?;
     let recorded = resumption_of(alloc, system, order)?;
-    let lived = live_with(rt, alloc, system, order, &recorded, writer, log);
+    let lived = run_on_record(rt, alloc, system, order, &recorded, writer, log);
     drop(recorded);
     Ok(lived?)
 }
@@ -425,7 +425,7 @@ pub(crate) fn live_order<H: Threads + Wait + Sync, S: System, W: Write, L: Rejec
     ensures lives { OrderedRun (means S.System system.now S.Fetcher.Fetcher S.Recorder.Fetcher S.Recorder.noted (kept_as S.Body.kind_of S.Body.len_of S.Folder.holds) S.Folder.Folder S.Record.Write) order.now (W.contents writer.old) (W.contents writer.new) result }
     ensures logged { IsLogTaken (IsLogLive (means S.System system.now S.Fetcher.Fetcher S.Recorder.Fetcher S.Recorder.noted (kept_as S.Body.kind_of S.Body.len_of S.Folder.holds) S.Folder.Folder S.Record.Write) order.now) (L.contents log.old) (L.contents log.new) }
 {
-    match live_in(rt, alloc, system, order, writer, log) {
+    match run_by_order(rt, alloc, system, order, writer, log) {
         Ok(status) => status,
         Err(fault) => refuse_resume(alloc, fault, writer),
     }

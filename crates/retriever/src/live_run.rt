@@ -7,9 +7,9 @@ ghost use Rattle.retriever.specs.Found.{Finds, outside, torn_line, unchanged_lin
 ghost use Rattle.retriever.specs.Keeping.{kept_as};
 ghost use Rattle.retriever.specs.Live.{LiveRun};
 ghost use Rattle.retriever.specs.Mirrored.{IsPutAs, kept_as_named};
-ghost use Rattle.retriever.specs.inner.Live.{IsTornTold};
-ghost use Rattle.retriever.specs.inner.Parts.{IsToldAs, status_told};
-ghost use Rattle.retriever.specs.inner.Puts.{IsHalfPutBy, IsHaltTold, IsHarvestPut, IsPutAndTold, IsPutOf, IsPutTold, IsStopPut, bare_cause, files_whole};
+ghost use Rattle.retriever.specs.inner.Live.{IsTornWritten};
+ghost use Rattle.retriever.specs.inner.Parts.{IsWrittenAs, last_status};
+ghost use Rattle.retriever.specs.inner.Puts.{IsHalfPutBy, IsHaltWritten, IsHarvestPut, IsPutAndWritten, IsPutOf, IsPutWritten, IsStopPut, bare_cause, files_whole};
 ghost use Rattle.retriever.specs.Retrieved.{Stopped};
 ghost use Rattle.retriever.specs.Rejecting.{IsRetrievedBy};
 ghost use Rattle.retriever.specs.Run.{finish_text};
@@ -45,50 +45,50 @@ fn bare_line(cause: Cause) -> &'static str
 
 // Writes a text, and gives the status of a run that has nothing more to write. The error is that the writer failed: then nothing
 // more is written.
-fn tell<W: Write>(writer: &mut W, text: &[u8], status: u8) -> Result<u8, WriteFailed>
-    ensures { IsToldAs (W.contents writer.old) (W.contents writer.new) result text.now status }
+fn write_ending<W: Write>(writer: &mut W, text: &[u8], status: u8) -> Result<u8, WriteFailed>
+    ensures { IsWrittenAs (W.contents writer.old) (W.contents writer.new) result text.now status }
 {
     write_text(writer, text)?;
     Ok(status)
 }
 
 // Writes how a retrieval stopped.
-fn tell_halt<B: Drop, W: Write>(
+fn write_halt<B: Drop, W: Write>(
     alloc: Global,
     with_trace: bool,
     halt: &Halt<B>,
     writer: &mut W,
 ) -> Result<u8, WriteFailed>
-    ensures { IsHaltTold (IsToldAs (W.contents writer.old) (W.contents writer.new) result) with_trace halt.now }
+    ensures { IsHaltWritten (IsWrittenAs (W.contents writer.old) (W.contents writer.new) result) with_trace halt.now }
 {
     match halt_text(alloc, with_trace, halt) {
-        Ok(text) => tell(writer, text.as_bytes(), 1),
-        Err(_) => tell(writer, bare_line(halt.cause).as_bytes(), 1),
+        Ok(text) => write_ending(writer, text.as_bytes(), 1),
+        Err(_) => write_ending(writer, bare_line(halt.cause).as_bytes(), 1),
     }
 }
 
 // Writes a harvest's text, and gives the status of its report.
-fn tell_report<B: Drop, W: Write>(
+fn write_report<B: Drop, W: Write>(
     harvest: &Harvest<B>,
     text: &str,
     writer: &mut W,
 ) -> Result<u8, WriteFailed>
-    ensures { IsToldAs (W.contents writer.old) (W.contents writer.new) result text.now (exit_status (map (λ recorded. recorded.1) harvest.now.records)) }
+    ensures { IsWrittenAs (W.contents writer.old) (W.contents writer.new) result text.now (exit_status (map (λ recorded. recorded.1) harvest.now.records)) }
 {
-    tell(writer, text.as_bytes(), exit_status(harvest))
+    write_ending(writer, text.as_bytes(), exit_status(harvest))
 }
 
 // Writes one text after another, and gives this status.
-fn tell_both<W: Write>(
+fn write_both<W: Write>(
     writer: &mut W,
     first: &str,
     second: &str,
     status: u8,
 ) -> Result<u8, WriteFailed>
-    ensures { IsToldAs (W.contents writer.old) (W.contents writer.new) result (first.now ++ second.now) status }
+    ensures { IsWrittenAs (W.contents writer.old) (W.contents writer.new) result (first.now ++ second.now) status }
 {
     match write_text(writer, first.as_bytes()) {
-        Ok(()) => tell(writer, second.as_bytes(), status),
+        Ok(()) => write_ending(writer, second.as_bytes(), status),
         Err(failed) => Err(failed),
     }
 }
@@ -102,17 +102,17 @@ fn torn_line(alloc: Global, whole: usize) -> Result<String, AllocError>
 
 // Writes a harvest's text, and after it how many files were whole when a put failed. The text isn't copied for that line, since
 // memory may be what failed.
-fn tell_torn<W: Write>(
+fn write_torn<W: Write>(
     alloc: Global,
     text: &str,
     whole: usize,
     writer: &mut W,
 ) -> Result<u8, WriteFailed>
-    ensures { IsTornTold (IsToldAs (W.contents writer.old) (W.contents writer.new) result) text.now whole }
+    ensures { IsTornWritten (IsWrittenAs (W.contents writer.old) (W.contents writer.new) result) text.now whole }
 {
     match torn_line(alloc, whole) {
-        Ok(line) => tell_both(writer, text, line.as_str(), 3),
-        Err(_) => tell(writer, b"stopped memory\n", 1),
+        Ok(line) => write_both(writer, text, line.as_str(), 3),
+        Err(_) => write_ending(writer, b"stopped memory\n", 1),
     }
 }
 
@@ -126,18 +126,18 @@ fn files_whole(fault: WriteFault) -> usize
 }
 
 // Writes a harvest's text when its files were put; if links of some weren't changed, with the line that says so.
-fn tell_put<B: Drop, W: Write>(
+fn write_put<B: Drop, W: Write>(
     all: bool,
     harvest: &Harvest<B>,
     text: &str,
     writer: &mut W,
 ) -> Result<u8, WriteFailed>
-    ensures { IsPutTold (IsToldAs (W.contents writer.old) (W.contents writer.new) result) all (text.now, exit_status (map (λ recorded. recorded.1) harvest.now.records)) }
+    ensures { IsPutWritten (IsWrittenAs (W.contents writer.old) (W.contents writer.new) result) all (text.now, exit_status (map (λ recorded. recorded.1) harvest.now.records)) }
 {
     if all {
-        tell_report(harvest, text, writer)
+        write_report(harvest, text, writer)
     } else {
-        tell_both(writer, text, UNCHANGED, 3)
+        write_both(writer, text, UNCHANGED, 3)
     }
 }
 
@@ -187,7 +187,7 @@ fn put<H: Threads, B: HasKind + Drop, D: Shelf<B>>(
 }
 
 // Puts the kept pages of a harvest into the folder under these names, and then writes its text.
-fn put_and_tell<H: Threads, B: HasKind + Drop, D: Shelf<B>, W: Write>(
+fn put_and_write<H: Threads, B: HasKind + Drop, D: Shelf<B>, W: Write>(
     rt: &H,
     alloc: Global,
     converts: bool,
@@ -199,12 +199,12 @@ fn put_and_tell<H: Threads, B: HasKind + Drop, D: Shelf<B>, W: Write>(
 ) -> Result<u8, WriteFailed>
     requires count { length names.now ≡ length harvest.now.kept }
     requires distinct { AreDistinct (map string_bytes names.now) }
-    ensures { IsPutAndTold converts (kept_as B.kind_of B.len_of D.holds) (IsToldAs (W.contents writer.old) (W.contents writer.new) result) (kept_as_named harvest.now (map string_bytes names.now)) harvest.now.bodies
+    ensures { IsPutAndWritten converts (kept_as B.kind_of B.len_of D.holds) (IsWrittenAs (W.contents writer.old) (W.contents writer.new) result) (kept_as_named harvest.now (map string_bytes names.now)) harvest.now.bodies
         (text.now, exit_status (map (λ recorded. recorded.1) harvest.now.records)) (holding D.files D.failed folder.old) (holding D.files D.failed folder.new) }
 {
     match put(rt, alloc, converts, names, harvest, folder) {
-        Ok(all) => tell_put(all, harvest, text, writer),
-        Err(fault) => tell_torn(alloc, text, files_whole(fault), writer),
+        Ok(all) => write_put(all, harvest, text, writer),
+        Err(fault) => write_torn(alloc, text, files_whole(fault), writer),
     }
 }
 
@@ -219,11 +219,11 @@ fn finish_harvest<H: Threads, B: HasKind + Drop, D: Shelf<B>, W: Write>(
     folder: &mut D,
     writer: &mut W,
 ) -> Result<u8, WriteFailed>
-    ensures { IsHarvestPut converts (kept_as B.kind_of B.len_of D.holds) (IsToldAs (W.contents writer.old) (W.contents writer.new) result) naming.now with_trace harvest.now
+    ensures { IsHarvestPut converts (kept_as B.kind_of B.len_of D.holds) (IsWrittenAs (W.contents writer.old) (W.contents writer.new) result) naming.now with_trace harvest.now
         (holding D.files D.failed folder.old) (holding D.files D.failed folder.new) }
 {
     match render_harvest(alloc, naming, with_trace, harvest) {
-        Ok(telling) => put_and_tell(
+        Ok(telling) => put_and_write(
             rt,
             alloc,
             converts,
@@ -233,7 +233,7 @@ fn finish_harvest<H: Threads, B: HasKind + Drop, D: Shelf<B>, W: Write>(
             folder,
             writer,
         ),
-        Err(_) => tell(writer, b"stopped memory\n", 1),
+        Err(_) => write_ending(writer, b"stopped memory\n", 1),
     }
 }
 
@@ -248,7 +248,7 @@ fn finish_halt<H: Threads, B: HasKind + Drop, D: Shelf<B>, W: Write>(
     folder: &mut D,
     writer: &mut W,
 ) -> Result<u8, WriteFailed>
-    ensures { IsStopPut converts (kept_as B.kind_of B.len_of D.holds) (IsToldAs (W.contents writer.old) (W.contents writer.new) result) naming.now with_trace halt.now.cause halt.now.harvest
+    ensures { IsStopPut converts (kept_as B.kind_of B.len_of D.holds) (IsWrittenAs (W.contents writer.old) (W.contents writer.new) result) naming.now with_trace halt.now.cause halt.now.harvest
         (holding D.files D.failed folder.old) (holding D.files D.failed folder.new) }
 {
     match halt.cause {
@@ -262,9 +262,9 @@ fn finish_halt<H: Threads, B: HasKind + Drop, D: Shelf<B>, W: Write>(
             folder,
             writer,
         ),
-        Cause::Full => tell_halt(alloc, with_trace, halt, writer),
-        Cause::Memory => tell_halt(alloc, with_trace, halt, writer),
-        Cause::Mismatch => tell_halt(alloc, with_trace, halt, writer),
+        Cause::Full => write_halt(alloc, with_trace, halt, writer),
+        Cause::Memory => write_halt(alloc, with_trace, halt, writer),
+        Cause::Mismatch => write_halt(alloc, with_trace, halt, writer),
     }
 }
 
@@ -280,7 +280,7 @@ pub(crate) fn finish<H: Threads, B: HasKind + Drop, D: Shelf<B>, W: Write>(
     folder: &mut D,
     writer: &mut W,
 ) -> Result<u8, WriteFailed>
-    ensures { IsPutOf converts (kept_as B.kind_of B.len_of D.holds) (IsToldAs (W.contents writer.old) (W.contents writer.new) result) naming.now with_trace retrieved.now
+    ensures { IsPutOf converts (kept_as B.kind_of B.len_of D.holds) (IsWrittenAs (W.contents writer.old) (W.contents writer.new) result) naming.now with_trace retrieved.now
         (holding D.files D.failed folder.old) (holding D.files D.failed folder.new) }
 {
     match retrieved {
@@ -294,8 +294,8 @@ pub(crate) fn finish<H: Threads, B: HasKind + Drop, D: Shelf<B>, W: Write>(
 }
 
 // The status of a run that has nothing more to write: 1 if the writer failed.
-fn status_told(told: Result<u8, WriteFailed>) -> u8
-    ensures { result ≡ status_told told }
+fn last_status(told: Result<u8, WriteFailed>) -> u8
+    ensures { result ≡ last_status told }
 {
     match told {
         Ok(status) => status,
@@ -303,7 +303,7 @@ fn status_told(told: Result<u8, WriteFailed>) -> u8
     }
 }
 
-/// Retrieves as [`live`] does, tells the observer how many addresses wait, and gives what was retrieved beside the status.
+/// Retrieves as [`live`] does, reports to the observer how many addresses wait, and gives what was retrieved beside the status.
 pub(crate) fn live_shown<
     H: Threads + Wait + Sync,
     F: Fetcher + Send,
@@ -348,7 +348,7 @@ where
         folder,
         writer,
     );
-    let status = status_told(told);
+    let status = last_status(told);
     (status, retrieved)
 }
 

@@ -5,7 +5,7 @@ use std::alloc::Global;
 use workers::{Halt, Harvest};
 
 /// Reports to a person the starts that moved away, unless there is no memory for it or the retrieval stopped.
-pub(crate) fn tell_moves<S: System, B: Drop>(
+pub(crate) fn report_moves<S: System, B: Drop>(
     alloc: Global,
     system: &S,
     retrieved: &Result<Harvest<B>, Halt<B>>,
@@ -17,6 +17,6 @@ pub(crate) fn tell_moves<S: System, B: Drop>(
         return;
     };
     if let Ok(text) = moves_text(alloc, plan, harvest.records()) {
-        system.tell(text.as_str());
+        system.report(text.as_str());
     }
 }

@@ -7,7 +7,7 @@ ghost use Rattle.retriever.specs.Advice.{said_of};
 ghost use Rattle.retriever.specs.Finding.{ProgramFinds};
 ghost use Rattle.retriever.specs.Order.{AreForInput, AreForLive};
 ghost use Rattle.retriever.specs.Keeping.{kept_as};
-ghost use Rattle.retriever.specs.Program.{IsExplained, IsFaultTold, IsQuietFor, ProgramRun, outputs, words_behind, words_fault};
+ghost use Rattle.retriever.specs.Program.{IsExplained, IsFaultReported, IsQuietFor, ProgramRun, outputs, words_behind, words_fault};
 ghost use Rattle.retriever.specs.Rejecting.{IsLogBy, IsLogFor, IsLogTaken};
 ghost use Rattle.retriever.specs.inner.Program.{Starts, all_streams};
 ghost use Rattle.retriever.specs.Run.{Runs, fault_text};
@@ -95,7 +95,7 @@ fn refusal_of(alloc: Global, fault: Fault, words: &[&str]) -> Result<Refusal, Al
 
 // Writes this for a person, if not empty. If the writer fails the run goes on: its line and its status say what went wrong,
 // whether or not anybody reads more.
-fn tell<E: Write>(advice: &str, errors: &mut E)
+fn write_advice<E: Write>(advice: &str, errors: &mut E)
     ensures told { AppendsFront (E.contents errors.old) (E.contents errors.new) advice.now }
     ensures quiet { advice.now ≡ [] → errors.new ≡ errors.old }
 {
@@ -121,7 +121,7 @@ pub(crate) fn explain<W: Write, E: Write>(
 {
     match refusal_of(alloc, fault, words) {
         Ok(refusal) => {
-            tell(refusal.advice.as_str(), errors);
+            write_advice(refusal.advice.as_str(), errors);
             deliver(writer, refusal.text.as_bytes(), fault.status())
         }
         Err(_) => deliver(writer, b"stopped memory\n", 1),
@@ -276,7 +276,7 @@ pub fn run_program<
         → ProgramRun (means S.System system.now S.Fetcher.Fetcher S.Recorder.Fetcher S.Recorder.noted (kept_as S.Body.kind_of S.Body.len_of S.Folder.holds) S.Folder.Folder S.Record.Write) (W.contents writer.old) (W.contents writer.new) result (words_behind (into_iter_items all))) }
     ensures unread { IfOk args (λ all. ¬ AreForInput (words_behind (into_iter_items all)) → reader.new ≡ reader.old) }
     ensures told { IfOk args (λ all. ¬ AreForInput (words_behind (into_iter_items all)) → ¬ AreForLive (words_behind (into_iter_items all))
-        → IsFaultTold (words_behind (into_iter_items all)) (outputs E.contents (W.contents writer.old) errors.old) (outputs E.contents (W.contents writer.new) errors.new) result) }
+        → IsFaultReported (words_behind (into_iter_items all)) (outputs E.contents (W.contents writer.old) errors.old) (outputs E.contents (W.contents writer.new) errors.new) result) }
     ensures quiet { IfOk args (λ all. AreForInput (words_behind (into_iter_items all)) ⊎ AreForLive (words_behind (into_iter_items all))
         → IsQuietFor (words_behind (into_iter_items all)) (outputs E.contents (W.contents writer.old) errors.old) (outputs E.contents (W.contents writer.new) errors.new)) }
     ensures refused { IfErr args (λ error. IsExplained [] (words_fault (error_kind error)) (outputs E.contents (W.contents writer.old) errors.old)

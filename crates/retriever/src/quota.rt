@@ -37,11 +37,14 @@ impl<B: HasKind> Quota<B> for ByLength {
 }
 
 /// Reports to a person if the quota ended a retrieval.
-pub(crate) fn tell_quota<S: System, B: Drop>(system: &S, retrieved: &Result<Harvest<B>, Halt<B>>) {
+pub(crate) fn report_quota<S: System, B: Drop>(
+    system: &S,
+    retrieved: &Result<Harvest<B>, Halt<B>>,
+) {
     let Err(halt) = retrieved else {
         return;
     };
     if halt.cause == Cause::Quota {
-        system.tell("stopped quota\n");
+        system.report("stopped quota\n");
     }
 }

@@ -5,7 +5,7 @@ ghost use Rattle.local_names.specs.Names.{AreDistinct};
 ghost use Rattle.report.specs.Entries.{harvest_lines_of};
 ghost use Rattle.report.specs.Report.{report_text};
 ghost use Rattle.retriever.specs.Parts.{shown_of};
-ghost use Rattle.retriever.specs.inner.Parts.{IsRead, IsRetrievalTold, is_borne_out};
+ghost use Rattle.retriever.specs.inner.Parts.{IsRead, IsRetrievalWritten, is_borne_out};
 ghost use Rattle.retriever.specs.Retrieved.{Stopped};
 ghost use Rattle.retriever.specs.Run.{finish_text};
 ghost use Rattle.retriever.specs.Keeping.{kinds_of};
@@ -139,7 +139,7 @@ pub(crate) fn render_retrieval(
     retrieved: &Result<Harvest<Body>, Halt<Body>>,
     rejected: Option<Result<String, AllocError>>,
 ) -> Result<RunOutput, AllocError>
-    ensures told { IfOk result (λ output. IsRetrievalTold naming.now with_trace retrieved.now (string_bytes output.text) output.status) }
+    ensures told { IfOk result (λ output. IsRetrievalWritten naming.now with_trace retrieved.now (string_bytes output.text) output.status) }
     ensures rejected { IfOk result (λ output. output.rejected ≡ rejected) }
 {
     match retrieved {

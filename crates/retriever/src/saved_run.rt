@@ -4,7 +4,7 @@ ghost use Rattle.site_records.specs.WrittenRecords.{all_noted, record_text};
 ghost use Rattle.local_tree.specs.Folders.{holding};
 ghost use Rattle.retriever.specs.Parts.{IsDelivered};
 ghost use Rattle.retriever.specs.Rejecting.{IsRetrievedBy};
-ghost use Rattle.retriever.specs.inner.Parts.{IsToldAs};
+ghost use Rattle.retriever.specs.inner.Parts.{IsWrittenAs};
 ghost use Rattle.retriever.specs.Saving.{IsSaved, ResumedRun, SavedRun, notes_of, outside_saved, resumes, resuming_of, save_status, save_text, unsaved_status};
 
 use crate::input_run::deliver;
@@ -23,7 +23,7 @@ use std::thread::Threads;
 use streams::WriteFailed;
 use workers::{Halt, Harvest};
 
-/// Fetchers that request from these what the record doesn't state, and tell the observer of what it does.
+/// Fetchers that request from these what the record doesn't state, and report to the observer what it does.
 pub(crate) fn resuming<'a, F: Recording, O: Observer>(
     alloc: Global,
     recorded: &RecordedSite,
@@ -77,7 +77,7 @@ fn unsaved_status(status: u8) -> u8
 }
 
 // Writes how the record was saved, and gives the status of the run that has this one without it.
-fn tell_saving<W: Write>(status: u8, saving: Result<(), RecordFault>, writer: &mut W) -> u8
+fn write_saving<W: Write>(status: u8, saving: Result<(), RecordFault>, writer: &mut W) -> u8
     ensures { IsDelivered (W.contents writer.old) (W.contents writer.new) (save_text saving) (save_status saving status) result }
 {
     match saving {
@@ -90,22 +90,22 @@ fn tell_saving<W: Write>(status: u8, saving: Result<(), RecordFault>, writer: &m
 }
 
 // Writes it after what was written, unless the writer failed there.
-fn tell_saving_behind<W: Write>(
+fn write_saving_after<W: Write>(
     told: Result<u8, WriteFailed>,
     saving: Result<(), RecordFault>,
     writer: &mut W,
 ) -> u8
-    ensures { (before : Option (List ℕ)) (text : List ℕ) (wanted : ℕ) → IsToldAs before (W.contents writer.old) told text wanted
+    ensures { (before : Option (List ℕ)) (text : List ℕ) (wanted : ℕ) → IsWrittenAs before (W.contents writer.old) told text wanted
         → IsDelivered before (W.contents writer.new) (text ++ save_text saving) (save_status saving wanted) result }
 {
     match told {
-        Ok(status) => tell_saving(status, saving, writer),
+        Ok(status) => write_saving(status, saving, writer),
         Err(_) => 1,
     }
 }
 
-/// Retrieves live, and saves what is given and what the fetchers note; gives what was retrieved beside the status. The observer
-/// is told how many addresses wait.
+/// Retrieves live, and saves what is given and what the fetchers note; gives what was retrieved beside the status. How many
+/// addresses wait is reported to the observer.
 pub(crate) fn live_saved<
     H: Threads + Wait + Sync,
     F: Recording + Send,
@@ -152,7 +152,7 @@ pub(crate) fn live_saved<
         folder,
         writer,
     );
-    (tell_saving_behind(told, saving, writer), retrieved)
+    (write_saving_after(told, saving, writer), retrieved)
 }
 
 /// Retrieves as [`live`](crate::live) does, except that nothing is requested that the record states, and saves the record's notes

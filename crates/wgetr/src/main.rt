@@ -8,7 +8,7 @@ use host_system::{
 };
 use progress::{BehindLine, ProgressLine};
 use record_journal::Saving;
-use retriever::{arguments, refuse_cookies, refuse_starts, run_program, telling_of, with_starts};
+use retriever::{arguments, refuse_cookies, refuse_starts, run_program, targets_of, with_starts};
 use std::io::{IsTerminal, Write};
 use std::process::ExitCode;
 use tcp_connect::{Hosts, KeptConnections};
@@ -18,7 +18,7 @@ fn main(rt: HostRuntime) -> ExitCode {
     let stand_ins = StandIns::open(&rt);
     let failures = SharedFailures::new(rt.alloc());
     // What is wrong before the words are an order goes to standard output, unless they say that nothing does.
-    let Ok(first) = telling_of(rt.alloc(), arguments(&rt, rt.alloc())) else {
+    let Ok(first) = targets_of(rt.alloc(), arguments(&rt, rt.alloc())) else {
         let _ = rt.stdout().write_all(b"stopped memory\n");
         return ExitCode::from(1);
     };
@@ -60,7 +60,7 @@ fn main(rt: HostRuntime) -> ExitCode {
         }
     };
     let args = with_starts(rt.alloc(), arguments(&rt, rt.alloc()), starts.as_slice());
-    let Ok(telling) = telling_of(rt.alloc(), args) else {
+    let Ok(targets) = targets_of(rt.alloc(), args) else {
         let _ = rt.stdout().write_all(b"stopped memory\n");
         return ExitCode::from(1);
     };
@@ -68,8 +68,8 @@ fn main(rt: HostRuntime) -> ExitCode {
         &rt,
         &failures,
         rt.stdout(),
-        telling.is_quiet,
-        telling.file(),
+        targets.is_quiet,
+        targets.file(),
     ) else {
         failures.tell(&rt, &mut rt.stderr());
         return ExitCode::from(3);
@@ -89,8 +89,8 @@ fn main(rt: HostRuntime) -> ExitCode {
         return ExitCode::from(1);
     }
     let kept = KeptConnections::new(rt.alloc());
-    let is_shown = rt.stderr().is_terminal() && !telling.is_quiet;
-    let path = telling.into_rejected();
+    let is_shown = rt.stderr().is_terminal() && !targets.is_quiet;
+    let path = targets.into_rejected();
     let Some(mut rejected) = RejectedFile::open(&rt, &rt, &failures, path, &mut output) else {
         failures.tell(&rt, &mut rt.stderr());
         return ExitCode::from(3);

@@ -25,7 +25,7 @@ use Rattle.harvest.specs.declared.page.KeptPage.{KeptPage}
 use Rattle.workers.specs.Asks.{pages_asked, origins_asked, AreOnce, AreRecordedOrLost}
 use Rattle.workers.specs.inner.Concluded.{HasBody}
 use Rattle.workers.specs.inner.Noted.{AreNoted, Agrees, StandsPage, StandsRules, page_of}
-use Rattle.workers.specs.inner.Notes.{IsToldPage, IsToldRules, addresses, origins}
+use Rattle.workers.specs.inner.Notes.{IsPageOfSite, AreRulesOfSite, addresses, origins}
 use Rattle.harvest.specs.Pages.{IsKept, is_success}
 use Rattle.harvest.proofs.OrderLaws.{Apart, Apart-from_once, Apart-IsPermutation}
 
@@ -88,8 +88,8 @@ module _ {B : Type 0} (may_say : Text → Outcome → B → Type 0) (may_rule : 
   noted_moved asks notes sorted sets sorted_sets noted moved moved_sets = record {
     pages = IsPermutation-trans _ _ _ noted.pages (IsPermutation-map (λ (note : PageNote B). note.address) notes sorted moved);
     rules = IsPermutation-trans _ _ _ noted.rules (IsPermutation-map (λ (note : RulesNote). note.origin) sets sorted_sets moved_sets);
-    told = All-permutation (IsToldPage may_say plan) notes sorted moved noted.told;
-    ruled = All-permutation (IsToldRules may_rule) sets sorted_sets moved_sets noted.ruled;
+    told = All-permutation (IsPageOfSite may_say plan) notes sorted moved noted.told;
+    ruled = All-permutation (AreRulesOfSite may_rule) sets sorted_sets moved_sets noted.ruled;
   }
 
   pub once_asked : (asks : List Ask) (notes : List (PageNote B)) (sets : List RulesNote) → AreNoted may_say may_rule plan asks notes sets → IsOnce (addresses notes) → IsOnce (origins sets) → AreOnce asks
@@ -120,10 +120,10 @@ module _ {B : Type 0} (may_say : Text → Outcome → B → Type 0) (may_rule : 
   recorded_or_lost asks notes sets s noted agrees = record {
     recorded = λ u some. Contains-permutation _ _ u (IsPermutation-sym _ _ noted.pages) (agrees.recorded u some);
     pages = λ u among. (let (note, is, stands) = page_noted asks notes sets noted (StandsPage s) agrees.stand u among in
-        subst (λ (w : Text). IsSome ((answers s).outcome w) ⊎ IsGivenUp s w) is (stands_as s note.address note.told stands));
+        subst (λ (w : Text). IsSome ((answers s).outcome w) ⊎ IsGivenUp s w) is (stands_as s note.address note.outcome stands));
     ruled = λ o some. Contains-permutation _ _ o (IsPermutation-sym _ _ noted.rules) (agrees.ruled o some);
     origins = λ o among. (let (note, is, stands) = rules_noted asks notes sets noted (StandsRules s) agrees.stand_rules o among in
-        subst (λ (w : Text). IsSome ((answers s).rules w) ⊎ AreRulesGivenUp s w) is (rules_stand_as s note.origin note.told stands));
+        subst (λ (w : Text). IsSome ((answers s).rules w) ⊎ AreRulesGivenUp s w) is (rules_stand_as s note.origin note.rules stands));
   }
 
 -- ---- the pages that are kept
@@ -182,9 +182,9 @@ both_true false b h = cc
 pub kept_is : {B : Type 0} (plan : Plan) (s : State) (notes : List (PageNote B)) (sets : List RulesNote) → Agrees s notes sets → All (HasBody plan) notes → (u : Text)
     → (Contains (map (λ (page : KeptPage B). page.address) (filter_map page_of notes)) u → IsKept plan (answers s) u) × (IsKept plan (answers s) u → Contains (map (λ (page : KeptPage B). page.address) (filter_map page_of notes)) u)
 kept_is {B = B} plan s notes sets agrees bodies u = (
-  (λ among. let (note, is, (has, stands), some) = kept_among (λ (note : PageNote B). HasBody plan note × StandsPage s note) notes u all among in subst (λ (w : Text). IsKept plan (answers s) w) is (shown note note.told has stands some)),
+  (λ among. let (note, is, (has, stands), some) = kept_among (λ (note : PageNote B). HasBody plan note × StandsPage s note) notes u all among in subst (λ (w : Text). IsKept plan (answers s) w) is (shown note note.outcome has stands some)),
   (λ kept. let (x, found, success, keeps) = kept in
-      among_kept (λ (note : PageNote B). HasBody plan note × StandsPage s note) notes u all (λ note both is. holds note note.told both.0 both.1 x (ap (λ (w : Text). (answers s).outcome w) is ∙ found) success (ap (keeps_of plan) is ∙ keeps)) (agrees.recorded u (ap is_some found))),
+      among_kept (λ (note : PageNote B). HasBody plan note × StandsPage s note) notes u all (λ note both is. holds note note.outcome both.0 both.1 x (ap (λ (w : Text). (answers s).outcome w) is ∙ found) success (ap (keeps_of plan) is ∙ keeps)) (agrees.recorded u (ap is_some found))),
 )
   where
     all : All (λ (note : PageNote B). HasBody plan note × StandsPage s note) notes

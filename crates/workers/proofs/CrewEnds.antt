@@ -26,8 +26,8 @@ use Rattle.workers.specs.declared.worker.Seat.{Seat}
 use Rattle.workers.specs.declared.crew_retrieval.Retrieved.{Retrieved}
 use Rattle.workers.specs.declared.crew_retrieval.Stopped.{Stopped}
 use Rattle.workers.specs.inner.Answered.{IsRetrievedBy, IsStoppedBy, IsAccount, IsOwnAccount}
-use Rattle.workers.specs.declared.crew_retrieval.Noted.{Noted}
-use Rattle.workers.specs.declared.crew_retrieval.Noted.TheVariants as known
+use Rattle.workers.specs.declared.crew_retrieval.KnownNotes.{KnownNotes}
+use Rattle.workers.specs.declared.crew_retrieval.KnownNotes.TheVariants as known
 use Rattle.workers.specs.declared.note.Notes.{Notes}
 use Rattle.workers.specs.inner.Apart.{IsOrdered}
 use Rattle.workers.specs.Asks.{gained, pages_asked, origins_asked, AreOnce}
@@ -122,12 +122,12 @@ module _ {F B : Type 0} (m : Meaning F B) (plan : Plan) where
 
   -- ---- by what was noted
 
-  pub account_all : (old new : List F) (noted : Noted B) (notes : Notes B) → IsAccount m plan old new noted → noted ≡ known.All notes
+  pub account_all : (old new : List F) (noted : KnownNotes B) (notes : Notes B) → IsAccount m plan old new noted → noted ≡ known.All notes
       → AreNoted (SomeSays m old new) (SomeRules m old new) plan (all_gained m old new) notes.pages.items notes.rules.items
-  account_all old new noted notes account is = subst (λ (n : Noted B). IsAccount m plan old new n) is account
+  account_all old new noted notes account is = subst (λ (n : KnownNotes B). IsAccount m plan old new n) is account
 
-  pub account_once : (old new : List F) (noted : Noted B) → IsAccount m plan old new noted → noted ≡ known.Once → AreOnce (all_gained m old new)
-  account_once old new noted account is = subst (λ (n : Noted B). IsAccount m plan old new n) is account
+  pub account_once : (old new : List F) (noted : KnownNotes B) → IsAccount m plan old new noted → noted ≡ known.Once → AreOnce (all_gained m old new)
+  account_once old new noted account is = subst (λ (n : KnownNotes B). IsAccount m plan old new n) is account
 
   pub all_retrieved : (old new : List F) (t : Traced) (notes : List (PageNote B)) (sets : List RulesNote) (concluded : Result (Harvested B) (Halt B)) → AreLater m old new
       → AreNoted (SomeSays m old new) (SomeRules m old new) plan (all_gained m old new) notes sets
@@ -229,9 +229,9 @@ module _ {F B : Type 0} (m : Meaning F B) (plan : Plan) where
 
 -- ---- who took what
 
-pub account_own : {F B : Type 0} (m : Meaning F B) (old new : List F) (noted : Noted B) (notes : Notes B) → IsOwnAccount m old new noted → noted ≡ known.All notes
+pub account_own : {F B : Type 0} (m : Meaning F B) (old new : List F) (noted : KnownNotes B) (notes : Notes B) → IsOwnAccount m old new noted → noted ≡ known.All notes
     → (trace : List Event) → AreNotedBy notes.pages.items notes.rules.items trace → AreOwn m 0 old new trace
-account_own {B = B} m old new noted notes account is = subst (λ (n : Noted B). IsOwnAccount m old new n) is account
+account_own {B = B} m old new noted notes account is = subst (λ (n : KnownNotes B). IsOwnAccount m old new n) is account
 
 -- ---- what a retrieval results in, beside its fetchers
 

@@ -17,7 +17,7 @@ use Rattle.workers.specs.declared.worker.Seat.{Seat}
 use Rattle.workers.specs.Asks.{gained, page_asked, origin_asked, pages_asked, origins_asked}
 use Rattle.workers.specs.Crews.{AreLater, all_gained, SomeSays, SomeRules}
 use Rattle.workers.specs.inner.Noted.{AreNoted}
-use Rattle.workers.specs.inner.Notes.{IsToldPage, IsToldRules, addresses, origins, body_of}
+use Rattle.workers.specs.inner.Notes.{IsPageOfSite, AreRulesOfSite, addresses, origins, body_of}
 use Rattle.workers.specs.inner.Seats.{SeatGoes, AllGo, fetchers_of, page_notes, rules_notes, AreNumbered}
 use Rattle.workers.specs.Takers.{IsOwn, AreOwn}
 use Rattle.workers.specs.inner.Takers.{IsNotedBy, AreNotedBy}
@@ -42,16 +42,16 @@ named_all key xs k d lt = (k, omega (arith, length-map xs key), get_or-map key x
 
 -- what may be said of a page may be said by more
 told_more : {B : Type 0} (may may' : Text → Outcome → B → Type 0) (plan : Plan) (note : PageNote B) → ((x : Outcome) (body : B) → may note.address x body → may' note.address x body)
-    → IsToldPage may plan note → IsToldPage may' plan note
-told_more {B = B} may may' plan note more h = go note.told h
+    → IsPageOfSite may plan note → IsPageOfSite may' plan note
+told_more {B = B} may may' plan note more h = go note.outcome h
   where
     go : (o : Option Outcome) → MatchOption o (note.body ≡ None) (λ x. (body : B) × may note.address x body × (note.body ≡ body_of plan note.address x body))
         → MatchOption o (note.body ≡ None) (λ x. (body : B) × may' note.address x body × (note.body ≡ body_of plan note.address x body))
     go None is = is
     go (Some x) (body, said, is) = (body, more x body said, is)
 
-ruled_more : (may may' : Text → RuleSetValue → Type 0) (note : RulesNote) → ((r : RuleSetValue) → may note.origin r → may' note.origin r) → IsToldRules may note → IsToldRules may' note
-ruled_more may may' note more h = go note.told h
+ruled_more : (may may' : Text → RuleSetValue → Type 0) (note : RulesNote) → ((r : RuleSetValue) → may note.origin r → may' note.origin r) → AreRulesOfSite may note → AreRulesOfSite may' note
+ruled_more may may' note more h = go note.rules h
   where
     go : (o : Option RuleSetValue) → IfSome o (λ r. may note.origin r) → IfSome o (λ r. may' note.origin r)
     go None is = tt
@@ -99,41 +99,41 @@ module _ {F B : Type 0} (m : Meaning F B) (plan : Plan) where
       ∙ (ap (λ (us : List Text). us ++ origins_asked (all_gained m (fetchers_of ss) (fetchers_of ts))) one
       ∙ (ap (λ (us : List Text). origins t.notes.rules.items ++ us) rest ∙ sym (map-append (λ (note : RulesNote). note.origin) t.notes.rules.items (rules_notes ts))))
 
-  pub all_told : (ss ts : List (Seat F B)) → AllGo m plan ss ts → page_notes ss ≡ [] → All (IsToldPage (SomeSays m (fetchers_of ss) (fetchers_of ts)) plan) (page_notes ts)
-  all_told [] [] go none = All-nil (IsToldPage (SomeSays m [] []) plan)
+  pub all_told : (ss ts : List (Seat F B)) → AllGo m plan ss ts → page_notes ss ≡ [] → All (IsPageOfSite (SomeSays m (fetchers_of ss) (fetchers_of ts)) plan) (page_notes ts)
+  all_told [] [] go none = All-nil (IsPageOfSite (SomeSays m [] []) plan)
   all_told [] (t ∷ ts) go none = absurd go
   all_told (s ∷ ss) [] go none = absurd go
   all_told (s ∷ ss) (t ∷ ts) go none =
       let may = SomeSays m (fetchers_of (s ∷ ss)) (fetchers_of (t ∷ ts)) in
       let here = nil_left s.notes.pages.items (page_notes ss) none in
       let asked = one_noted s t go.0 here in
-      let told : All (IsToldPage (m.says (m.site s.fetcher)) plan) t.notes.pages.items =
-      subst (λ (notes : List (PageNote B)). All (IsToldPage (m.says (m.site s.fetcher)) plan) notes) (sym (fresh s.notes.pages.items go.0.pages t.notes.pages.items go.0.pages_are here)) go.0.told in
+      let told : All (IsPageOfSite (m.says (m.site s.fetcher)) plan) t.notes.pages.items =
+      subst (λ (notes : List (PageNote B)). All (IsPageOfSite (m.says (m.site s.fetcher)) plan) notes) (sym (fresh s.notes.pages.items go.0.pages t.notes.pages.items go.0.pages_are here)) go.0.told in
       let among : All (λ (note : PageNote B). Contains (pages_asked (gained (m.log s.fetcher) (m.log t.fetcher))) note.address) t.notes.pages.items =
       subst (λ (us : List Text). All (λ (note : PageNote B). Contains us note.address) t.notes.pages.items) (sym asked) (named_all (λ (note : PageNote B). note.address) t.notes.pages.items) in
-      All-append (IsToldPage may plan) t.notes.pages.items (page_notes ts)
-      (all_both (λ (note : PageNote B). Contains (pages_asked (gained (m.log s.fetcher) (m.log t.fetcher))) note.address) (IsToldPage (m.says (m.site s.fetcher)) plan) (IsToldPage may plan) t.notes.pages.items
+      All-append (IsPageOfSite may plan) t.notes.pages.items (page_notes ts)
+      (all_both (λ (note : PageNote B). Contains (pages_asked (gained (m.log s.fetcher) (m.log t.fetcher))) note.address) (IsPageOfSite (m.says (m.site s.fetcher)) plan) (IsPageOfSite may plan) t.notes.pages.items
       (λ note c h. told_more (m.says (m.site s.fetcher)) may plan note (λ x body said. inl (page_in (gained (m.log s.fetcher) (m.log t.fetcher)) note.address c, said)) h) among told)
-      (All-weaker (IsToldPage (SomeSays m (fetchers_of ss) (fetchers_of ts)) plan) (IsToldPage may plan)
+      (All-weaker (IsPageOfSite (SomeSays m (fetchers_of ss) (fetchers_of ts)) plan) (IsPageOfSite may plan)
       (λ note h. told_more (SomeSays m (fetchers_of ss) (fetchers_of ts)) may plan note (λ x body said. inr said) h) (page_notes ts)
       (all_told ss ts go.1 (nil_right s.notes.pages.items (page_notes ss) none)))
 
-  pub all_ruled : (ss ts : List (Seat F B)) → AllGo m plan ss ts → rules_notes ss ≡ [] → All (IsToldRules (SomeRules m (fetchers_of ss) (fetchers_of ts))) (rules_notes ts)
-  all_ruled [] [] go none = All-nil (IsToldRules (SomeRules m [] []))
+  pub all_ruled : (ss ts : List (Seat F B)) → AllGo m plan ss ts → rules_notes ss ≡ [] → All (AreRulesOfSite (SomeRules m (fetchers_of ss) (fetchers_of ts))) (rules_notes ts)
+  all_ruled [] [] go none = All-nil (AreRulesOfSite (SomeRules m [] []))
   all_ruled [] (t ∷ ts) go none = absurd go
   all_ruled (s ∷ ss) [] go none = absurd go
   all_ruled (s ∷ ss) (t ∷ ts) go none =
       let may = SomeRules m (fetchers_of (s ∷ ss)) (fetchers_of (t ∷ ts)) in
       let here = nil_left s.notes.rules.items (rules_notes ss) none in
       let asked = one_ruled s t go.0 here in
-      let told : All (IsToldRules (m.rules (m.site s.fetcher))) t.notes.rules.items =
-      subst (λ (notes : List RulesNote). All (IsToldRules (m.rules (m.site s.fetcher))) notes) (sym (fresh s.notes.rules.items go.0.sets t.notes.rules.items go.0.sets_are here)) go.0.ruled in
+      let told : All (AreRulesOfSite (m.rules (m.site s.fetcher))) t.notes.rules.items =
+      subst (λ (notes : List RulesNote). All (AreRulesOfSite (m.rules (m.site s.fetcher))) notes) (sym (fresh s.notes.rules.items go.0.sets t.notes.rules.items go.0.sets_are here)) go.0.ruled in
       let among : All (λ (note : RulesNote). Contains (origins_asked (gained (m.log s.fetcher) (m.log t.fetcher))) note.origin) t.notes.rules.items =
       subst (λ (us : List Text). All (λ (note : RulesNote). Contains us note.origin) t.notes.rules.items) (sym asked) (named_all (λ (note : RulesNote). note.origin) t.notes.rules.items) in
-      All-append (IsToldRules may) t.notes.rules.items (rules_notes ts)
-      (all_both (λ (note : RulesNote). Contains (origins_asked (gained (m.log s.fetcher) (m.log t.fetcher))) note.origin) (IsToldRules (m.rules (m.site s.fetcher))) (IsToldRules may) t.notes.rules.items
+      All-append (AreRulesOfSite may) t.notes.rules.items (rules_notes ts)
+      (all_both (λ (note : RulesNote). Contains (origins_asked (gained (m.log s.fetcher) (m.log t.fetcher))) note.origin) (AreRulesOfSite (m.rules (m.site s.fetcher))) (AreRulesOfSite may) t.notes.rules.items
       (λ note c h. ruled_more (m.rules (m.site s.fetcher)) may note (λ r said. inl (rules_in (gained (m.log s.fetcher) (m.log t.fetcher)) note.origin c, said)) h) among told)
-      (All-weaker (IsToldRules (SomeRules m (fetchers_of ss) (fetchers_of ts))) (IsToldRules may)
+      (All-weaker (AreRulesOfSite (SomeRules m (fetchers_of ss) (fetchers_of ts))) (AreRulesOfSite may)
       (λ note h. ruled_more (SomeRules m (fetchers_of ss) (fetchers_of ts)) may note (λ r said. inr said) h) (rules_notes ts)
       (all_ruled ss ts go.1 (nil_right s.notes.rules.items (rules_notes ss) none)))
 

@@ -59,12 +59,12 @@ told_some None known A h some = absurd (false≢true some)
 told_some (Some x) known A h some = ap is_some h
 
 -- if of each note something was received that is in the table, and no more is recorded than was noted, all that is recorded was noted
-pub recorded_noted : {B : Type 0} (s : State) (notes : List (PageNote B)) → IsOnce (addresses notes) → All (StandsPage s) notes → All (λ (note : PageNote B). IsSome note.told) notes
+pub recorded_noted : {B : Type 0} (s : State) (notes : List (PageNote B)) → IsOnce (addresses notes) → All (StandsPage s) notes → All (λ (note : PageNote B). IsSome note.outcome) notes
     → length (filter_map record_of s.entries) ≤ length notes → (u : Text) → IsSome ((answers s).outcome u) → Contains (addresses notes) u
 recorded_noted {B = B} s notes once stand told few u some =
     let key : PageNote B → Text = λ note. note.address in
     let P : PageNote B → Type 0 = λ note. IsSome ((answers s).outcome note.address) in
-    let all : All P notes = λ k d lt. told_some (get_or notes k d).told ((answers s).outcome (get_or notes k d).address) (IsGivenUp s (get_or notes k d).address) (stand k d lt) (told k d lt) in
+    let all : All P notes = λ k d lt. told_some (get_or notes k d).outcome ((answers s).outcome (get_or notes k d).address) (IsGivenUp s (get_or notes k d).address) (stand k d lt) (told k d lt) in
     let long : length (addresses notes) ≡ length notes = length-map notes key in
     let many : length (recorded_addresses (filter_map record_of s.entries)) ≡ length (filter_map record_of s.entries) = length-map (filter_map record_of s.entries) (λ (recorded : Recorded). recorded.0) in
     all_among (addresses notes) (recorded_addresses (filter_map record_of s.entries)) once

@@ -23,7 +23,7 @@ use Rattle.harvest.specs.Entries.{Seen, seen_of, seen_in, said_by}
 use Rattle.harvest.specs.Gathered.{AreEntries}
 use Rattle.harvest.specs.Harvests.{Harvested}
 use Rattle.harvest.specs.declared.entry.HarvestEntry.{HarvestEntry}
-use Rattle.workers.specs.Asks.{pages_asked, origins_asked, AreOnce, AreRecorded, IsTold}
+use Rattle.workers.specs.Asks.{pages_asked, origins_asked, AreOnce, AreRecorded, IsOfSite}
 use Rattle.workers.specs.Found.{AreMadeOnce, AreAsked, AreFound}
 use Rattle.workers.specs.Retrieval.{IsRetrieved, IsStopped}
 use Rattle.workers.proofs.SiteLaws.{some_of}
@@ -72,7 +72,7 @@ made_once (ask.Rules o ∷ asks) once =
 
 -- what was requested is exactly what is wanted
 pub are_asked : {B : Type 0} (may_say : Text → Outcome → B → Type 0) (may_rule : Text → RuleSetValue → Type 0) (plan : Plan) (asks : List Ask) (s : State)
-    → AreOnce asks → AreRecorded asks (answers s) → IsComplete (policy plan) s → IsTold may_say may_rule (answers s) → AreAsked may_say may_rule plan asks (answers s)
+    → AreOnce asks → AreRecorded asks (answers s) → IsComplete (policy plan) s → IsOfSite may_say may_rule (answers s) → AreAsked may_say may_rule plan asks (answers s)
 are_asked may_say may_rule plan asks s once recorded complete told = record {
   once = made_once asks once;
   wanted = λ u. (

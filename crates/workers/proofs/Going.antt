@@ -17,7 +17,7 @@ use Rattle.workers.specs.declared.note.PageNote.{PageNote}
 use Rattle.workers.specs.declared.note.RulesNote.{RulesNote}
 use Rattle.workers.specs.declared.note.Notes.{Notes}
 use Rattle.workers.specs.Asks.{page_asked, origin_asked}
-use Rattle.workers.specs.inner.Notes.{Goes, body_of, IsToldPage, IsToldRules}
+use Rattle.workers.specs.inner.Notes.{Goes, body_of, IsPageOfSite, AreRulesOfSite}
 
 -- an ask that found no memory was logged or not, as the log's length says
 pub not_logged : (old new : List Ask) (a : Ask) → GainedAtMost old new a → length new ≡ length old → new ≡ old
@@ -39,12 +39,12 @@ told_cases says plan u None kept x body said is = is
 told_cases says plan u (Some y) kept x body said is = (body, subst (λ z. says u z body) (sym is.0) said, is.1)
 
 pub told_page : {B : Type 0} (says : Text → Outcome → B → Type 0) (plan : Plan) (note : PageNote B) (x : Outcome) (body : B) → says note.address x body
-    → MatchOption note.told (note.body ≡ None) (λ y. (y ≡ x) × (note.body ≡ body_of plan note.address y body)) → IsToldPage says plan note
-told_page says plan note x body said is = told_cases says plan note.address note.told note.body x body said is
+    → MatchOption note.outcome (note.body ≡ None) (λ y. (y ≡ x) × (note.body ≡ body_of plan note.address y body)) → IsPageOfSite says plan note
+told_page says plan note x body said is = told_cases says plan note.address note.outcome note.body x body said is
 
 -- and so it is with the rules of an origin
-pub told_rules : (may_rule : Text → RuleSetValue → Type 0) (note : RulesNote) (rules : RuleSetValue) → may_rule note.origin rules → IfSome note.told (λ told. told ≡ rules) → IsToldRules may_rule note
-told_rules may_rule note rules may is = IfSome_then note.told is (λ told same. subst (λ (r : RuleSetValue). may_rule note.origin r) (sym same) may)
+pub told_rules : (may_rule : Text → RuleSetValue → Type 0) (note : RulesNote) (rules : RuleSetValue) → may_rule note.origin rules → IfSome note.rules (λ told. told ≡ rules) → AreRulesOfSite may_rule note
+told_rules may_rule note rules may is = IfSome_then note.rules is (λ told same. subst (λ (r : RuleSetValue). may_rule note.origin r) (sym same) may)
 
 module _ {F B : Type 0} (m : Meaning F B) (plan : Plan) (worker : ℕ) where
   -- nothing was done
@@ -59,8 +59,8 @@ module _ {F B : Type 0} (m : Meaning F B) (plan : Plan) (worker : ℕ) where
     sets_are = sym (append-nil notes.rules.items);
     pages_noted = refl;
     rules_noted = refl;
-    told = All-nil (IsToldPage (m.says (m.site f)) plan);
-    ruled = All-nil (IsToldRules (m.rules (m.site f)));
+    told = All-nil (IsPageOfSite (m.says (m.site f)) plan);
+    ruled = All-nil (AreRulesOfSite (m.rules (m.site f)));
     own = All-nil (λ (note : PageNote B). note.worker ≡ worker);
     own_sets = All-nil (λ (note : RulesNote). note.worker ≡ worker);
   }
@@ -78,15 +78,15 @@ module _ {F B : Type 0} (m : Meaning F B) (plan : Plan) (worker : ℕ) where
     sets_are = same_sets ∙ sym (append-nil n.rules.items);
     pages_noted = refl;
     rules_noted = refl;
-    told = All-nil (IsToldPage (m.says (m.site f)) plan);
-    ruled = All-nil (IsToldRules (m.rules (m.site f)));
+    told = All-nil (IsPageOfSite (m.says (m.site f)) plan);
+    ruled = All-nil (AreRulesOfSite (m.rules (m.site f)));
     own = All-nil (λ (note : PageNote B). note.worker ≡ worker);
     own_sets = All-nil (λ (note : RulesNote). note.worker ≡ worker);
   }
 
   -- a page was requested, and noted
   pub goes_page : (f g : F) (n n' : Notes B) (note : PageNote B) → m.site g ≡ m.site f → m.log g ≡ m.log f ++ ask.Page note.address ∷ []
-      → n'.pages.items ≡ n.pages.items ++ note ∷ [] → n'.rules.items ≡ n.rules.items → IsToldPage (m.says (m.site f)) plan note → note.worker ≡ worker → Goes m plan worker (f, n) (g, n')
+      → n'.pages.items ≡ n.pages.items ++ note ∷ [] → n'.rules.items ≡ n.rules.items → IsPageOfSite (m.says (m.site f)) plan note → note.worker ≡ worker → Goes m plan worker (f, n) (g, n')
   goes_page f g n n' note same_site logged noted same_sets told own = record {
     asks = ask.Page note.address ∷ [];
     pages = note ∷ [];
@@ -97,15 +97,15 @@ module _ {F B : Type 0} (m : Meaning F B) (plan : Plan) (worker : ℕ) where
     sets_are = same_sets ∙ sym (append-nil n.rules.items);
     pages_noted = refl;
     rules_noted = refl;
-    told = All-cons (IsToldPage (m.says (m.site f)) plan) note [] told (All-nil (IsToldPage (m.says (m.site f)) plan));
-    ruled = All-nil (IsToldRules (m.rules (m.site f)));
+    told = All-cons (IsPageOfSite (m.says (m.site f)) plan) note [] told (All-nil (IsPageOfSite (m.says (m.site f)) plan));
+    ruled = All-nil (AreRulesOfSite (m.rules (m.site f)));
     own = All-cons (λ (note : PageNote B). note.worker ≡ worker) note [] own (All-nil (λ (note : PageNote B). note.worker ≡ worker));
     own_sets = All-nil (λ (note : RulesNote). note.worker ≡ worker);
   }
 
   -- an origin's rules were requested, and noted
   pub goes_rules : (f g : F) (n n' : Notes B) (note : RulesNote) → m.site g ≡ m.site f → m.log g ≡ m.log f ++ ask.Rules note.origin ∷ []
-      → n'.pages.items ≡ n.pages.items → n'.rules.items ≡ n.rules.items ++ note ∷ [] → IsToldRules (m.rules (m.site f)) note → note.worker ≡ worker → Goes m plan worker (f, n) (g, n')
+      → n'.pages.items ≡ n.pages.items → n'.rules.items ≡ n.rules.items ++ note ∷ [] → AreRulesOfSite (m.rules (m.site f)) note → note.worker ≡ worker → Goes m plan worker (f, n) (g, n')
   goes_rules f g n n' note same_site logged same_pages noted told own = record {
     asks = ask.Rules note.origin ∷ [];
     pages = [];
@@ -116,8 +116,8 @@ module _ {F B : Type 0} (m : Meaning F B) (plan : Plan) (worker : ℕ) where
     sets_are = noted;
     pages_noted = refl;
     rules_noted = refl;
-    told = All-nil (IsToldPage (m.says (m.site f)) plan);
-    ruled = All-cons (IsToldRules (m.rules (m.site f))) note [] told (All-nil (IsToldRules (m.rules (m.site f))));
+    told = All-nil (IsPageOfSite (m.says (m.site f)) plan);
+    ruled = All-cons (AreRulesOfSite (m.rules (m.site f))) note [] told (All-nil (AreRulesOfSite (m.rules (m.site f))));
     own = All-nil (λ (note : PageNote B). note.worker ≡ worker);
     own_sets = All-cons (λ (note : RulesNote). note.worker ≡ worker) note [] own (All-nil (λ (note : RulesNote). note.worker ≡ worker));
   }
@@ -136,8 +136,8 @@ module _ {F B : Type 0} (m : Meaning F B) (plan : Plan) (worker : ℕ) where
         ∙ (ap (λ (x : List Text). map (λ (note : PageNote B). note.address) a.pages ++ x) b.pages_noted ∙ sym (map-append (λ (note : PageNote B). note.address) a.pages b.pages)));
     rules_noted = filter_map-append origin_asked a.asks b.asks ∙ (ap (λ (x : List Text). x ++ filter_map origin_asked b.asks) a.rules_noted
         ∙ (ap (λ (x : List Text). map (λ (note : RulesNote). note.origin) a.sets ++ x) b.rules_noted ∙ sym (map-append (λ (note : RulesNote). note.origin) a.sets b.sets)));
-    told = All-append (IsToldPage (m.says (m.site f)) plan) a.pages b.pages a.told (subst (λ (s : m.Site). All (IsToldPage (m.says s) plan) b.pages) a.site_is b.told);
-    ruled = All-append (IsToldRules (m.rules (m.site f))) a.sets b.sets a.ruled (subst (λ (s : m.Site). All (IsToldRules (m.rules s)) b.sets) a.site_is b.ruled);
+    told = All-append (IsPageOfSite (m.says (m.site f)) plan) a.pages b.pages a.told (subst (λ (s : m.Site). All (IsPageOfSite (m.says s) plan) b.pages) a.site_is b.told);
+    ruled = All-append (AreRulesOfSite (m.rules (m.site f))) a.sets b.sets a.ruled (subst (λ (s : m.Site). All (AreRulesOfSite (m.rules s)) b.sets) a.site_is b.ruled);
     own = All-append (λ (note : PageNote B). note.worker ≡ worker) a.pages b.pages a.own b.own;
     own_sets = All-append (λ (note : RulesNote). note.worker ≡ worker) a.sets b.sets a.own_sets b.own_sets;
   }

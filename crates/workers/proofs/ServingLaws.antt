@@ -28,11 +28,11 @@ use Rattle.workers.specs.declared.note.PageNote.{PageNote}
 use Rattle.workers.specs.declared.note.RulesNote.{RulesNote}
 use Rattle.harvest.specs.declared.page.KeptPage.{KeptPage}
 use Rattle.workers.specs.declared.retrieval.Halt.{Halt}
-use Rattle.workers.specs.Asks.{pages_asked, origins_asked, IsTold}
+use Rattle.workers.specs.Asks.{pages_asked, origins_asked, IsOfSite}
 use Rattle.workers.specs.inner.Concluded.{HasBody, IsConcluded, IsBare}
 use Rattle.harvest.specs.Harvests.{Harvested}
 use Rattle.workers.specs.inner.Noted.{AreNoted, Agrees, StandsPage, StandsRules, page_of}
-use Rattle.workers.specs.inner.Notes.{IsToldPage, IsToldRules, origins, body_of}
+use Rattle.workers.specs.inner.Notes.{IsPageOfSite, AreRulesOfSite, origins, body_of}
 use Rattle.harvest.specs.Pages.{IsBodyOf, is_success}
 use Rattle.workers.specs.Retrieval.{IsRetrieved, IsPartRetrieved, IsStopped}
 use Rattle.workers.specs.inner.Turns.{IsServing, AtEnd, AtStop}
@@ -66,16 +66,16 @@ body_is false body found h = cc
 
 module _ {B : Type 0} (may_say : Text → Outcome → B → Type 0) (may_rule : Text → RuleSetValue → Type 0) (plan : Plan) where
   -- a body is noted exactly if the page is kept
-  pub has_body : (note : PageNote B) → IsToldPage may_say plan note → HasBody plan note
-  has_body note h = go note.told h
+  pub has_body : (note : PageNote B) → IsPageOfSite may_say plan note → HasBody plan note
+  has_body note h = go note.outcome h
     where
       go : (o : Option Outcome) → MatchOption o (note.body ≡ None) (λ x. (body : B) × may_say note.address x body × (note.body ≡ body_of plan note.address x body))
           → MatchOption o (note.body ≡ None) (λ x. is_some note.body ≡ (keeps_of plan note.address && is_success x))
       go None is = is
       go (Some x) (body, said, is) = ap is_some is ∙ body_some (keeps_of plan note.address && is_success x) body
 
-  told_at : (s : State) (note : PageNote B) (u : Text) (x : Outcome) → note.address ≡ u → (answers s).outcome u ≡ Some x → StandsPage s note → IsToldPage may_say plan note → (body : B) × may_say u x body
-  told_at s note u x is found stands told = go note.told stands told
+  told_at : (s : State) (note : PageNote B) (u : Text) (x : Outcome) → note.address ≡ u → (answers s).outcome u ≡ Some x → StandsPage s note → IsPageOfSite may_say plan note → (body : B) × may_say u x body
+  told_at s note u x is found stands told = go note.outcome stands told
     where
       go : (o : Option Outcome) → MatchOption o (IsGivenUp s note.address) (λ y. (answers s).outcome note.address ≡ Some y)
           → MatchOption o (note.body ≡ None) (λ y. (body : B) × may_say note.address y body × (note.body ≡ body_of plan note.address y body)) → (body : B) × may_say u x body
@@ -85,8 +85,8 @@ module _ {B : Type 0} (may_say : Text → Outcome → B → Type 0) (may_rule : 
           let at : y ≡ x = cc in
           (body, subst (λ (w : Text). may_say w x body) is (subst (λ (z : Outcome). may_say note.address z body) at said))
 
-  ruled_at : (s : State) (note : RulesNote) (o : Text) (r : RuleSetValue) → note.origin ≡ o → (answers s).rules o ≡ Some r → StandsRules s note → IsToldRules may_rule note → may_rule o r
-  ruled_at s note o r is found stands told = go note.told stands told
+  ruled_at : (s : State) (note : RulesNote) (o : Text) (r : RuleSetValue) → note.origin ≡ o → (answers s).rules o ≡ Some r → StandsRules s note → AreRulesOfSite may_rule note → may_rule o r
+  ruled_at s note o r is found stands told = go note.rules stands told
     where
       go : (t : Option RuleSetValue) → MatchOption t (AreRulesGivenUp s note.origin) (λ y. (answers s).rules note.origin ≡ Some y) → IfSome t (λ y. may_rule note.origin y) → may_rule o r
       go None lost h = absurd (let gone : (answers s).rules note.origin ≡ None = ap known_rules_in lost in let here : (answers s).rules note.origin ≡ Some r = ap (λ (w : Text). (answers s).rules w) is ∙ found in cc)
@@ -95,16 +95,16 @@ module _ {B : Type 0} (may_say : Text → Outcome → B → Type 0) (may_rule : 
           let at : y ≡ r = cc in
           subst (λ (w : Text). may_rule w r) is (subst (λ (z : RuleSetValue). may_rule note.origin z) at h)
 
-  is_told : (s : State) (asks : List Ask) (notes : List (PageNote B)) (sets : List RulesNote) → AreNoted may_say may_rule plan asks notes sets → Agrees s notes sets → IsTold may_say may_rule (answers s)
+  is_told : (s : State) (asks : List Ask) (notes : List (PageNote B)) (sets : List RulesNote) → AreNoted may_say may_rule plan asks notes sets → Agrees s notes sets → IsOfSite may_say may_rule (answers s)
   is_told s asks notes sets noted agrees = record {
-    outcomes = λ u x found. (let (note, is, both) = found_note (λ (note : PageNote B). note.address) (λ (note : PageNote B). StandsPage s note × IsToldPage may_say plan note) notes u (λ k d lt. (agrees.stand k d lt, noted.told k d lt)) (agrees.recorded u (ap is_some found)) in
+    outcomes = λ u x found. (let (note, is, both) = found_note (λ (note : PageNote B). note.address) (λ (note : PageNote B). StandsPage s note × IsPageOfSite may_say plan note) notes u (λ k d lt. (agrees.stand k d lt, noted.told k d lt)) (agrees.recorded u (ap is_some found)) in
         told_at s note u x is found both.0 both.1);
-    rules = λ o r found. (let (note, is, both) = found_note (λ (note : RulesNote). note.origin) (λ (note : RulesNote). StandsRules s note × IsToldRules may_rule note) sets o (λ k d lt. (agrees.stand_rules k d lt, noted.ruled k d lt)) (agrees.ruled o (ap is_some found)) in
+    rules = λ o r found. (let (note, is, both) = found_note (λ (note : RulesNote). note.origin) (λ (note : RulesNote). StandsRules s note × AreRulesOfSite may_rule note) sets o (λ k d lt. (agrees.stand_rules k d lt, noted.ruled k d lt)) (agrees.ruled o (ap is_some found)) in
         ruled_at s note o r is found both.0 both.1);
   }
 
-  body_at : (s : State) (note : PageNote B) (body : B) → note.body ≡ Some body → StandsPage s note → IsToldPage may_say plan note → IsBodyOf may_say (answers s) note.address body
-  body_at s note body is stands told = go note.told stands told
+  body_at : (s : State) (note : PageNote B) (body : B) → note.body ≡ Some body → StandsPage s note → IsPageOfSite may_say plan note → IsBodyOf may_say (answers s) note.address body
+  body_at s note body is stands told = go note.outcome stands told
     where
       go : (o : Option Outcome) → MatchOption o (IsGivenUp s note.address) (λ y. (answers s).outcome note.address ≡ Some y)
           → MatchOption o (note.body ≡ None) (λ y. (b : B) × may_say note.address y b × (note.body ≡ body_of plan note.address y b)) → IsBodyOf may_say (answers s) note.address body
@@ -112,17 +112,17 @@ module _ {B : Type 0} (may_say : Text → Outcome → B → Type 0) (may_rule : 
       go (Some x) stood (b, said, kept) =
           (x, stood, subst (λ (z : B). may_say note.address x z) (body_is (keeps_of plan note.address && is_success x) b body (sym is ∙ kept)) said)
 
-  bodies_of : (s : State) (notes : List (PageNote B)) → All (StandsPage s) notes → All (IsToldPage may_say plan) notes → All (λ page. IsBodyOf may_say (answers s) page.address page.body) (filter_map page_of notes)
+  bodies_of : (s : State) (notes : List (PageNote B)) → All (StandsPage s) notes → All (IsPageOfSite may_say plan) notes → All (λ page. IsBodyOf may_say (answers s) page.address page.body) (filter_map page_of notes)
   bodies_of s [] stand told = All-nil (λ (page : KeptPage B). IsBodyOf may_say (answers s) page.address page.body)
   bodies_of s (note ∷ notes) stand told =
-      go (bodies_of s notes (All-tail (StandsPage s) note notes stand) (All-tail (IsToldPage may_say plan) note notes told)) note.body refl
+      go (bodies_of s notes (All-tail (StandsPage s) note notes stand) (All-tail (IsPageOfSite may_say plan) note notes told)) note.body refl
     where
       go : All (λ page. IsBodyOf may_say (answers s) page.address page.body) (filter_map page_of notes) → (o : Option B) → note.body ≡ o
           → All (λ page. IsBodyOf may_say (answers s) page.address page.body) (filter_map page_of (note ∷ notes))
       go rest None is = rw is rest
       go rest (Some body) is =
           rw is (All-cons (λ (page : KeptPage B). IsBodyOf may_say (answers s) page.address page.body) (record { address = note.address; body = body }) (filter_map page_of notes)
-          (body_at s note body is (All-head (StandsPage s) note notes stand) (All-head (IsToldPage may_say plan) note notes told)) rest)
+          (body_at s note body is (All-head (StandsPage s) note notes stand) (All-head (IsPageOfSite may_say plan) note notes told)) rest)
 
   known_some : (s : State) (o : Text) (told : Option RuleSetValue) → MatchOption told (AreRulesGivenUp s o) (λ r. (answers s).rules o ≡ Some r) → IsSome (lookup s.origins o)
   known_some s o None lost = ap is_some lost
@@ -141,10 +141,10 @@ module _ {B : Type 0} (may_say : Text → Outcome → B → Type 0) (may_rule : 
         once = once_asked may_say may_rule plan asks notes sets noted agrees.once agrees.once_origins;
         told = is_told t.state asks notes sets noted agrees;
         needed = λ o among. (let (note, is, stands) = rules_noted may_say may_rule plan asks notes sets noted (StandsRules t.state) agrees.stand_rules o among in
-            needed_replay (policy plan) t.trace t.state here o (subst (λ (w : Text). IsSome (lookup t.state.origins w)) is (known_some t.state note.origin note.told stands)));
+            needed_replay (policy plan) t.trace t.state here o (subst (λ (w : Text). IsSome (lookup t.state.origins w)) is (known_some t.state note.origin note.rules stands)));
         kept = record {
           once = kept_once notes agrees.once;
-          addresses = kept_is plan t.state notes sets agrees (All-weaker (IsToldPage may_say plan) (HasBody plan) has_body notes noted.told);
+          addresses = kept_is plan t.state notes sets agrees (All-weaker (IsPageOfSite may_say plan) (HasBody plan) has_body notes noted.told);
           bodies = bodies_of t.state notes agrees.stand noted.told;
         };
       }
@@ -208,8 +208,8 @@ module _ {B : Type 0} (may_say : Text → Outcome → B → Type 0) (may_rule : 
   })
 
 -- what is said of each note is said of all
-pub all_has_body : {B : Type 0} (may_say : Text → Outcome → B → Type 0) (plan : Plan) (notes : List (PageNote B)) → All (IsToldPage may_say plan) notes → All (HasBody plan) notes
-all_has_body may_say plan notes told = All-weaker (IsToldPage may_say plan) (HasBody plan) (has_body may_say (λ o r. Unit {0}) plan) notes told
+pub all_has_body : {B : Type 0} (may_say : Text → Outcome → B → Type 0) (plan : Plan) (notes : List (PageNote B)) → All (IsPageOfSite may_say plan) notes → All (HasBody plan) notes
+all_has_body may_say plan notes told = All-weaker (IsPageOfSite may_say plan) (HasBody plan) (has_body may_say (λ o r. Unit {0}) plan) notes told
 
 -- a harvest that is handed on
 pub ok_from : {B : Type 0} (concluded : Result (Harvested B) (Halt B)) (h : Harvested B) (A : Harvested B → Type 0) → IfOk concluded A → IsOk concluded → IfOk concluded (λ k. h ≡ k) → A h
@@ -243,7 +243,7 @@ module _ {F B : Type 0} (m : Meaning F B) where
 module _ {B : Type 0} (may may' : Text → Outcome → B → Type 0) (rule rule' : Text → RuleSetValue → Type 0) (asks : List Ask)
     (more : (u : Text) (x : Outcome) (body : B) → Contains (pages_asked asks) u → may u x body → may' u x body)
     (more_rules : (o : Text) (r : RuleSetValue) → Contains (origins_asked asks) o → rule o r → rule' o r) where
-  told_by_more : (m : Answers) → ((u : Text) → IsSome (m.outcome u) → Contains (pages_asked asks) u) → ((o : Text) → IsSome (m.rules o) → Contains (origins_asked asks) o) → IsTold may rule m → IsTold may' rule' m
+  told_by_more : (m : Answers) → ((u : Text) → IsSome (m.outcome u) → Contains (pages_asked asks) u) → ((o : Text) → IsSome (m.rules o) → Contains (origins_asked asks) o) → IsOfSite may rule m → IsOfSite may' rule' m
   told_by_more m asked asked_rules told = record {
     outcomes = λ u x found. (let (body, said) = told.outcomes u x found in (body, more u x body (asked u (ap is_some found)) said));
     rules = λ o r found. more_rules o r (asked_rules o (ap is_some found)) (told.rules o r found);

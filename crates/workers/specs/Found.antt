@@ -9,7 +9,7 @@ use Rattle.frontier_core.specs.Tables.{Text}
 use Rattle.frontier_core.specs.Routes.{Answers, IsCandidate, IsDepth, IsWanted, IsNeeded}
 use Rattle.frontier_core.specs.Plans.{policy}
 use Rattle.harvest.specs.declared.entry.HarvestEntry.{HarvestEntry}
-use Rattle.workers.specs.Asks.{IsTold}
+use Rattle.workers.specs.Asks.{IsOfSite}
 
 -- nothing is requested twice
 abbrev pub AreMadeOnce : List Ask → Type 0
@@ -23,7 +23,7 @@ pub record AreAsked {B : Type 0} (may_say : Text → Outcome → B → Type 0) (
   pub needed : (o : Text) → Contains asks (ask.Rules o) ↔ IsNeeded (policy plan) m o
   pub outcomes : (u : Text) → Contains asks (ask.Page u) ↔ IsSome (m.outcome u)
   pub rules : (o : Text) → Contains asks (ask.Rules o) ↔ IsSome (m.rules o)
-  pub told : IsTold may_say may_rule m
+  pub told : IsOfSite may_say may_rule m
 
 -- the entries are the addresses to which routes lead by what is recorded, each with its least depth
 pub record AreFound (plan : Plan) (m : Answers) (entries : List HarvestEntry) : Type 0 where

@@ -55,7 +55,7 @@ fn ascend<T: Named>(things: &[T]) -> bool
 fn page_stands<B>(frontier: &Frontier, note: &PageNote<B>) -> bool
     ensures { IsTrue result ↔ StandsPage frontier.now.state note.now }
 {
-    match &note.told {
+    match &note.outcome {
         Some(outcome) => match frontier.outcome_of(&note.address) {
             Some(recorded) => outcome.same(recorded),
             None => false,
@@ -68,7 +68,7 @@ fn page_stands<B>(frontier: &Frontier, note: &PageNote<B>) -> bool
 fn rules_stand(frontier: &Frontier, note: &RulesNote) -> bool
     ensures { IsTrue result ↔ StandsRules frontier.now.state note.now }
 {
-    match &note.told {
+    match &note.rules {
         Some(rules) => match frontier.rules_of(&note.origin) {
             Some(known) => rules.same(known),
             None => false,
@@ -136,11 +136,11 @@ fn records_are_noted<B>(frontier: &Frontier, notes: &[PageNote<B>]) -> bool
 }
 
 // Whether something was received of each page.
-fn are_told<B>(notes: &[PageNote<B>]) -> bool
-    ensures { IsTrue result → All (λ note. IsSome note.told) notes.now }
+fn are_answered<B>(notes: &[PageNote<B>]) -> bool
+    ensures { IsTrue result → All (λ note. IsSome note.outcome) notes.now }
 {
     for note in notes {
-        if note.told.is_none() {
+        if note.outcome.is_none() {
             return false;
         }
     }
@@ -170,7 +170,7 @@ fn all_are_noted<B>(frontier: &Frontier, notes: &[PageNote<B>]) -> bool
     ensures noted { IsTrue result → (u : Text) → IsSome ((answers frontier.now.state).outcome u) → Contains (addresses notes.now) u }
     ensures missing { IsAscending (addresses notes.now) → ((u : Text) → IsSome ((answers frontier.now.state).outcome u) → Contains (addresses notes.now) u) → IsTrue result }
 {
-    if are_told(notes) {
+    if are_answered(notes) {
         if are_no_more(frontier, notes) {
             return true;
         }

@@ -87,7 +87,7 @@ fn keep_page<B: Drop>(pages: &mut Vec<KeptPage<B>>, note: PageNote<B>) -> Result
     let PageNote {
         worker: _,
         address,
-        told: _,
+        outcome: _,
         body,
     } = note;
     if let Some(body) = body {

@@ -19,7 +19,7 @@ use crate::note::Notes;
 use crate::once::is_once_in_place;
 use crate::quota::{NoQuota, Quota};
 use crate::retrieval::{Halt, open, retrieve_noting};
-use crate::seats::{Left, leave_all, leave_bare, note_room, seat_all};
+use crate::seats::{SeatContents, leave_all, leave_bare, note_room, seat_all};
 use crate::worker::Seat;
 use fetcher::Fetcher;
 use follow_filters::Plan;
@@ -96,13 +96,13 @@ fn retrieve_alone<F: Fetcher, Q: Quota<F::Body>, O: Observer>(
 
 // What is needed before any worker starts.
 #[derive(Drop)]
-struct Room<F, B> {
+struct CrewRoom<F, B> {
     frontier: Frontier,
     seats: Vec<Seat<F, B>>,
     fetchers: Vec<F>,
 }
 
-impl<F: Drop, B: Drop> Room<F, B> {
+impl<F: Drop, B: Drop> CrewRoom<F, B> {
     // A frontier over a copy of the plan, with room for so many seats, and for the fetchers that come back.
     fn new(alloc: Global, plan: &Plan, count: usize) -> Result<Self, AllocError>
         ensures empty { IfOk result (λ room. (room.seats.items ≡ []) × (room.fetchers.items ≡ [])) }
@@ -113,7 +113,7 @@ impl<F: Drop, B: Drop> Room<F, B> {
         let fetchers = Vec::with_capacity(alloc, count)?;
         // Made last: at each exit after it all that a frontier holds would be dropped, and each is proved.
         let frontier = open(alloc, plan)?;
-        Ok(Room {
+        Ok(CrewRoom {
             frontier,
             seats,
             fetchers,
@@ -125,12 +125,12 @@ impl<F: Drop, B: Drop> Room<F, B> {
 #[derive(Drop)]
 struct Worked<F, B> {
     fetchers: Vec<F>,
-    noted: Noted<B>,
+    noted: KnownNotes<B>,
 }
 
 // What is known of the notes.
 #[derive(Drop)]
-enum Noted<B> {
+enum KnownNotes<B> {
     All(Notes<B>),
     // There was no memory to bring them together; nothing was requested twice.
     Once,
@@ -167,10 +167,10 @@ where
     let mut seats = run_crew(rt, alloc, lock, plan, quota, seats);
     match note_room(alloc, &seats) {
         Ok(notes) => {
-            let Left { fetchers, notes } = leave_all(seats, room, notes);
+            let SeatContents { fetchers, notes } = leave_all(seats, room, notes);
             Worked {
                 fetchers,
-                noted: Noted::All(notes),
+                noted: KnownNotes::All(notes),
             }
         }
         Err(_) => {
@@ -179,12 +179,12 @@ where
             if !is_once {
                 return Worked {
                     fetchers,
-                    noted: Noted::Twice,
+                    noted: KnownNotes::Twice,
                 };
             }
             Worked {
                 fetchers,
-                noted: Noted::Once,
+                noted: KnownNotes::Once,
             }
         }
     }
@@ -215,10 +215,10 @@ where
         × IfErr result.0 (λ halt. halt.cause ≢ Cause.Mismatch → AreOwn F.Fetcher 0 fetchers.items result.1.items halt.harvest.trace) }
 {
     let workers = fetchers.len();
-    let Ok(room) = Room::new(alloc, plan, workers) else {
+    let Ok(room) = CrewRoom::new(alloc, plan, workers) else {
         return (Err(Halt::empty(alloc)), fetchers);
     };
-    let Room {
+    let CrewRoom {
         frontier,
         seats,
         fetchers: back,
@@ -227,15 +227,15 @@ where
     let Worked { fetchers, noted } = work_all(rt, alloc, &lock, plan, quota, fetchers, seats, back);
     let frontier = lock.into_frontier();
     match noted {
-        Noted::All(notes) => (
+        KnownNotes::All(notes) => (
             conclude(alloc, plan, quota, workers, frontier, notes),
             fetchers,
         ),
-        Noted::Once => {
+        KnownNotes::Once => {
             drop(frontier);
             (Err(Halt::empty(alloc)), fetchers)
         }
-        Noted::Twice => {
+        KnownNotes::Twice => {
             drop(frontier);
             (Err(Halt::mismatch(alloc)), fetchers)
         }
@@ -274,7 +274,7 @@ where
 }
 
 /// Retrieves as [`retrieve`] does, and gives the result beside the fetchers, which come back in their order whatever it
-/// is. The observer is told how many addresses wait.
+/// is. How many addresses wait is reported to the observer.
 pub fn retrieve_shown<
     F: Fetcher + Send,
     Q: Quota<F::Body> + Sync,

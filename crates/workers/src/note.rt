@@ -14,7 +14,7 @@ pub struct PageNote<B> {
     pub worker: u32,
     pub address: Address,
     /// What was answered, if the frontier took it.
-    pub told: Option<Outcome>,
+    pub outcome: Option<Outcome>,
     /// The body, if the page is kept.
     pub body: Option<B>,
 }
@@ -26,7 +26,7 @@ pub struct RulesNote {
     pub worker: u32,
     pub origin: Origin,
     /// The rules, if the frontier took them.
-    pub told: Option<RuleSet>,
+    pub rules: Option<RuleSet>,
 }
 
 impl<B> Named for PageNote<B> {

@@ -102,13 +102,13 @@ fn give<O: Observer, R: Wait>(rt: &R, lock: &FrontierLock<'_, O>, done: Done) ->
 }
 
 // The note of a page that was requested, if nothing of it was handed over.
-fn untold_page<B>(worker: u32, address: Address) -> PageNote<B>
-    ensures { result ≡ record { worker = worker; address = address; told = None; body = None } }
+fn unanswered_page<B>(worker: u32, address: Address) -> PageNote<B>
+    ensures { result ≡ record { worker = worker; address = address; outcome = None; body = None } }
 {
     PageNote {
         worker,
         address,
-        told: None,
+        outcome: None,
         body: None,
     }
 }
@@ -141,7 +141,7 @@ fn hand_over<B: Drop, Q: Quota<B>, O: Observer, R: Wait>(
 ) -> (PageNote<B>, Work)
     ensures worker { result.0.worker ≡ worker }
     ensures address { result.0.address ≡ address }
-    ensures told { MatchOption result.0.told (result.0.body ≡ None) (λ x. (x ≡ answer.outcome) × (result.0.body ≡ body_of plan.now result.0.address x answer.body)) }
+    ensures told { MatchOption result.0.outcome (result.0.body ≡ None) (λ x. (x ≡ answer.outcome) × (result.0.body ≡ body_of plan.now result.0.address x answer.body)) }
 {
     let Answer { mut outcome, body } = answer;
     let body = keep_body(plan, &address, &outcome, body);
@@ -151,13 +151,13 @@ fn hand_over<B: Drop, Q: Quota<B>, O: Observer, R: Wait>(
         Err(unanswered) => {
             let Unanswered { permit, fault } = unanswered;
             let stopped = halt(rt, lock, Some(HeldPermit::Page(permit)), cause_of(fault));
-            return (untold_page(worker, address), stopped);
+            return (unanswered_page(worker, address), stopped);
         }
     };
     let note = PageNote {
         worker,
         address,
-        told: Some(outcome),
+        outcome: Some(outcome),
         body,
     };
     (note, next)
@@ -186,7 +186,7 @@ fn fetch_page<F: Fetcher, Q: Quota<F::Body>, O: Observer, R: Wait>(
         if fetcher.asks().len() == before {
             return stopped;
         }
-        notes.pages.push_reserved(untold_page(worker, address));
+        notes.pages.push_reserved(unanswered_page(worker, address));
         return stopped;
     };
     let (note, next) = hand_over(rt, lock, plan, meter, worker, address, permit, answer);
@@ -195,13 +195,13 @@ fn fetch_page<F: Fetcher, Q: Quota<F::Body>, O: Observer, R: Wait>(
 }
 
 // The note of an origin's rules that were requested, if none were handed over.
-fn untold_rules(worker: u32, origin: Origin) -> RulesNote
-    ensures { result ≡ record { worker = worker; origin = origin; told = None } }
+fn unanswered_rules(worker: u32, origin: Origin) -> RulesNote
+    ensures { result ≡ record { worker = worker; origin = origin; rules = None } }
 {
     RulesNote {
         worker,
         origin,
-        told: None,
+        rules: None,
     }
 }
 
@@ -217,19 +217,19 @@ fn hand_rules_over<O: Observer, R: Wait>(
 ) -> RulesNote
     ensures worker { result.worker ≡ worker }
     ensures origin { result.origin ≡ origin }
-    ensures told { IfSome result.told (λ told. told ≡ rules) }
+    ensures told { IfSome result.rules (λ told. told ≡ rules) }
 {
     let Ok(copy) = rules.try_clone(alloc) else {
         lock.halt(rt, Some(HeldPermit::Rules(permit)), Cause::Memory);
-        return untold_rules(worker, origin);
+        return unanswered_rules(worker, origin);
     };
     if !give(rt, lock, Done::Rules(permit, copy)) {
-        return untold_rules(worker, origin);
+        return unanswered_rules(worker, origin);
     }
     RulesNote {
         worker,
         origin,
-        told: Some(rules),
+        rules: Some(rules),
     }
 }
 
@@ -256,7 +256,7 @@ fn fetch_robots<F: Fetcher, O: Observer, R: Wait>(
         if fetcher.asks().len() == before {
             return;
         }
-        notes.rules.push_reserved(untold_rules(worker, origin));
+        notes.rules.push_reserved(unanswered_rules(worker, origin));
         return;
     };
     let note = hand_rules_over(rt, alloc, lock, worker, origin, permit, rules);

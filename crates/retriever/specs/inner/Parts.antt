@@ -19,7 +19,7 @@ use Rattle.report.specs.Entries.{harvest_lines_of}
 use Rattle.report.specs.ExitStatus.{exit_status}
 use Rattle.report.specs.Report.{report_text}
 use Rattle.retriever.specs.Keeping.{kind_in, kinds_of}
-use Rattle.retriever.specs.InputFound.{TellsSite, TellsFault}
+use Rattle.retriever.specs.InputFound.{DescribesSite, EndsInFault}
 use Rattle.retriever.specs.Retrieved.{Finish, Stopped, Finishes}
 use Rattle.retriever.specs.Run.{finish_text, finish_status}
 use Rattle.site_records.specs.Records.{RecordedAnswers}
@@ -44,22 +44,22 @@ pub record IsOutputOf (order : Order) (site : RecordedAnswers) (text : List ℕ)
 
 -- what the reader has left describes a site, and its retrieval results in this text and this status
 abbrev pub IsOutput : (List ℕ → RecordedAnswers → Type 0) → Order → Option (List ℕ) → List ℕ → ℕ → Type 0
-IsOutput IsOf order known text status = (site : RecordedAnswers) × TellsSite IsOf known site × IsOutputOf order site text status
+IsOutput IsOf order known text status = (site : RecordedAnswers) × DescribesSite IsOf known site × IsOutputOf order site text status
 
 -- what the order and the reader result in instead of a retrieval: a site on the network isn't one that an input describes
 abbrev pub IsUnfit : Order → Option (List ℕ) → Fault → Type 0
 IsUnfit order known wrong =
-    ((order.source ≡ source.Live) × (wrong ≡ fault.NoSite)) ⊎ ((order.source ≢ source.Live) × TellsFault (IsWrongBy order.source order.links) known wrong)
+    ((order.source ≡ source.Live) × (wrong ≡ fault.NoSite)) ⊎ ((order.source ≢ source.Live) × EndsInFault (IsWrongBy order.source order.links) known wrong)
 
 -- the writer gained the text, after which the run has this status unless more is written, or the writer failed
-abbrev pub IsToldAs : {E : Type 0} → Option (List ℕ) → Option (List ℕ) → Result ℕ E → List ℕ → ℕ → Type 0
-IsToldAs old new (Ok status) text wanted = (status ≡ wanted) × Appends old new text
-IsToldAs old new (Err failed) text wanted = AppendsFront old new text
+abbrev pub IsWrittenAs : {E : Type 0} → Option (List ℕ) → Option (List ℕ) → Result ℕ E → List ℕ → ℕ → Type 0
+IsWrittenAs old new (Ok status) text wanted = (status ≡ wanted) × Appends old new text
+IsWrittenAs old new (Err failed) text wanted = AppendsFront old new text
 
 -- the status of a run that has nothing more to write
-abbrev pub status_told : {E : Type 0} → Result ℕ E → ℕ
-status_told (Ok status) = status
-status_told (Err failed) = 1
+abbrev pub last_status : {E : Type 0} → Result ℕ E → ℕ
+last_status (Ok status) = status
+last_status (Err failed) = 1
 
 -- whether the checks of a retrieval that stopped for this cause bear out what it found
 abbrev pub is_borne_out : Cause → Bool
@@ -76,9 +76,9 @@ IsRead h = AreEntries h × AreRecords h × ArePages h × IfSome h.plan (λ plan.
 -- what is written of a retrieval: its report, in which the kept pages have their names by these rules, and the status of its records, of a
 -- harvest that was read, or the cause for which it stopped; before either what is shown of its trace, which is nothing if a
 -- check failed
-abbrev pub IsRetrievalTold : PageNames → Bool → Result (Harvested BodyValue) (Halt BodyValue) → List ℕ → ℕ → Type 0
-IsRetrievalTold naming with_trace (Ok h) text status =
+abbrev pub IsRetrievalWritten : PageNames → Bool → Result (Harvested BodyValue) (Halt BodyValue) → List ℕ → ℕ → Type 0
+IsRetrievalWritten naming with_trace (Ok h) text status =
     IsRead h × (names : List (List ℕ)) × AreNamesOf naming h.kept (kinds_of kind_in h.bodies) names × (text ≡ trace_text (shown_of with_trace h.trace) ++ report_text (harvest_lines_of h names))
     × (status ≡ exit_status (map (λ recorded. recorded.1) h.records))
-IsRetrievalTold naming with_trace (Err halt) text status =
+IsRetrievalWritten naming with_trace (Err halt) text status =
     (text ≡ trace_text (shown_of (is_borne_out halt.cause && with_trace) halt.harvest.trace) ++ finish_text (Stopped halt.cause)) × (status ≡ 1)

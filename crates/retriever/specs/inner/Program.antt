@@ -2,7 +2,7 @@
 use Rattle.std.specs.Prelude.{◌≡◌, ◌⊎◌, ℕ, List, Option}
 use Rattle.retriever.specs.Order.{AreForInput, AreForLive}
 use Rattle.retriever.specs.Run.{Runs}
-use Rattle.retriever.specs.Program.{Outputs, IsFaultTold, IsQuietFor}
+use Rattle.retriever.specs.Program.{Outputs, IsFaultReported, IsQuietFor}
 
 -- the streams of the program at one moment: its reader with what that has left, and its outputs
 pub record Streams (R E : Type 0) : Type 0 where
@@ -20,5 +20,5 @@ pub record Starts {R E : Type 0} (LiveRun : List (List ℕ) → Type 0) (before 
   pub runs : ¬ AreForLive words → Runs words before.remaining before.outputs.written after.outputs.written status
   pub lives : AreForLive words → LiveRun words
   pub unread : ¬ AreForInput words → after.reader ≡ before.reader
-  pub told : ¬ AreForInput words → ¬ AreForLive words → IsFaultTold words before.outputs after.outputs status
+  pub told : ¬ AreForInput words → ¬ AreForLive words → IsFaultReported words before.outputs after.outputs status
   pub quiet : AreForInput words ⊎ AreForLive words → IsQuietFor words before.outputs after.outputs

@@ -15,7 +15,7 @@ use Rattle.report.specs.Report.{report_text}
 use Rattle.retriever.specs.Found.{unchanged_line}
 use Rattle.retriever.specs.Keeping.{Keeping, kinds_of}
 use Rattle.retriever.specs.Mirrored.{IsPutAs, IsHalfPutAs, kept_as_named}
-use Rattle.retriever.specs.inner.Live.{IsTornTold}
+use Rattle.retriever.specs.inner.Live.{IsTornWritten}
 use Rattle.retriever.specs.Parts.{shown_of}
 use Rattle.retriever.specs.inner.Parts.{IsRead, is_borne_out}
 use Rattle.retriever.specs.Retrieved.{Stopped}
@@ -32,10 +32,10 @@ bare_cause cause.Mismatch = cause.Mismatch
 bare_cause cause.Quota = cause.Memory
 
 -- the line of a retrieval that stopped is written, after what is shown of its trace, or without that because memory ran out
-abbrev pub IsHaltTold : {B : Type 0} → (List ℕ → ℕ → Type 0) → Bool → Halt B → Type 0
-IsHaltTold IsTold with_trace halt =
-    IsTold (trace_text (shown_of (is_borne_out halt.cause && with_trace) halt.harvest.trace) ++ finish_text (Stopped halt.cause)) 1
-    ⊎ IsTold (finish_text (Stopped (bare_cause halt.cause))) 1
+abbrev pub IsHaltWritten : {B : Type 0} → (List ℕ → ℕ → Type 0) → Bool → Halt B → Type 0
+IsHaltWritten IsWritten with_trace halt =
+    IsWritten (trace_text (shown_of (is_borne_out halt.cause && with_trace) halt.harvest.trace) ++ finish_text (Stopped halt.cause)) 1
+    ⊎ IsWritten (finish_text (Stopped (bare_cause halt.cause))) 1
 
 -- how many files were whole when a put failed
 abbrev pub files_whole : WriteFault → ℕ
@@ -46,15 +46,15 @@ abbrev pub IsHalfPutBy : {B : Type 0} → Bool → Keeping B → Kept → List B
 IsHalfPutBy converts keeps kept bodies old new (Device whole) = IsHalfPutAs converts keeps kept bodies old new whole
 
 -- this text is written with this status; or, if not all were changed, with the line that says so
-abbrev pub IsPutTold : (List ℕ → ℕ → Type 0) → Bool → List ℕ × ℕ → Type 0
-IsPutTold IsTold true (text, wanted) = IsTold text wanted
-IsPutTold IsTold false (text, wanted) = IsTold (text ++ unchanged_line) 3
+abbrev pub IsPutWritten : (List ℕ → ℕ → Type 0) → Bool → List ℕ × ℕ → Type 0
+IsPutWritten IsWritten true (text, wanted) = IsWritten text wanted
+IsPutWritten IsWritten false (text, wanted) = IsWritten (text ++ unchanged_line) 3
 
 -- these files were put, with links changed or not, and then it was written; or a put failed
-abbrev pub IsPutAndTold : {B : Type 0} → Bool → Keeping B → (List ℕ → ℕ → Type 0) → Kept → List B → List ℕ × ℕ → Holding → Holding → Type 0
-IsPutAndTold converts keeps IsTold kept bodies (text, wanted) old new =
-    ((all : Bool) × IsPutAs converts all keeps kept bodies old new × (new.failed ≡ old.failed) × IsPutTold IsTold all (text, wanted))
-    ⊎ ((whole : ℕ) × IsHalfPutAs converts keeps kept bodies old new whole × IsTornTold IsTold text whole)
+abbrev pub IsPutAndWritten : {B : Type 0} → Bool → Keeping B → (List ℕ → ℕ → Type 0) → Kept → List B → List ℕ × ℕ → Holding → Holding → Type 0
+IsPutAndWritten converts keeps IsWritten kept bodies (text, wanted) old new =
+    ((all : Bool) × IsPutAs converts all keeps kept bodies old new × (new.failed ≡ old.failed) × IsPutWritten IsWritten all (text, wanted))
+    ⊎ ((whole : ℕ) × IsHalfPutAs converts keeps kept bodies old new whole × IsTornWritten IsWritten text whole)
 
 -- the text of a harvest whose kept pages have these names
 abbrev pub harvest_text : {B : Type 0} → Bool → Harvested B → List (List ℕ) → List ℕ
@@ -62,20 +62,20 @@ harvest_text with_trace h names = trace_text (shown_of with_trace h.trace) ++ re
 
 -- what is put and written of a harvest that was read: its kept pages and its report; or there is no memory for it, and nothing is put
 abbrev pub IsHarvestPut : {B : Type 0} → Bool → Keeping B → (List ℕ → ℕ → Type 0) → PageNames → Bool → Harvested B → Holding → Holding → Type 0
-IsHarvestPut converts keeps IsTold naming with_trace h old new =
-    ((new ≡ old) × IsTold (codes "stopped memory\n") 1)
+IsHarvestPut converts keeps IsWritten naming with_trace h old new =
+    ((new ≡ old) × IsWritten (codes "stopped memory\n") 1)
     ⊎ (IsRead h × (names : List (List ℕ)) × AreNamesOf naming h.kept (kinds_of keeps.kind_of h.bodies) names
-    × IsPutAndTold converts keeps IsTold (kept_as_named h names) h.bodies (harvest_text with_trace h names, exit_status (map (λ recorded. recorded.1) h.records)) old new)
+    × IsPutAndWritten converts keeps IsWritten (kept_as_named h names) h.bodies (harvest_text with_trace h names, exit_status (map (λ recorded. recorded.1) h.records)) old new)
 
 -- what is put and written of a retrieval that stopped for this cause: if that is the quota, the same as of a harvest,
 -- and else the line of the cause
 abbrev pub IsStopPut : {B : Type 0} → Bool → Keeping B → (List ℕ → ℕ → Type 0) → PageNames → Bool → Cause → Harvested B → Holding → Holding → Type 0
-IsStopPut converts keeps IsTold naming with_trace cause.Quota h old new = IsHarvestPut converts keeps IsTold naming with_trace h old new
-IsStopPut converts keeps IsTold naming with_trace cause.Full h old new = (new ≡ old) × IsHaltTold IsTold with_trace (record { cause = cause.Full; harvest = h })
-IsStopPut converts keeps IsTold naming with_trace cause.Memory h old new = (new ≡ old) × IsHaltTold IsTold with_trace (record { cause = cause.Memory; harvest = h })
-IsStopPut converts keeps IsTold naming with_trace cause.Mismatch h old new = (new ≡ old) × IsHaltTold IsTold with_trace (record { cause = cause.Mismatch; harvest = h })
+IsStopPut converts keeps IsWritten naming with_trace cause.Quota h old new = IsHarvestPut converts keeps IsWritten naming with_trace h old new
+IsStopPut converts keeps IsWritten naming with_trace cause.Full h old new = (new ≡ old) × IsHaltWritten IsWritten with_trace (record { cause = cause.Full; harvest = h })
+IsStopPut converts keeps IsWritten naming with_trace cause.Memory h old new = (new ≡ old) × IsHaltWritten IsWritten with_trace (record { cause = cause.Memory; harvest = h })
+IsStopPut converts keeps IsWritten naming with_trace cause.Mismatch h old new = (new ≡ old) × IsHaltWritten IsWritten with_trace (record { cause = cause.Mismatch; harvest = h })
 
 -- what is put and written of what was retrieved
 abbrev pub IsPutOf : {B : Type 0} → Bool → Keeping B → (List ℕ → ℕ → Type 0) → PageNames → Bool → Result (Harvested B) (Halt B) → Holding → Holding → Type 0
-IsPutOf converts keeps IsTold naming with_trace (Ok h) old new = IsHarvestPut converts keeps IsTold naming with_trace h old new
-IsPutOf converts keeps IsTold naming with_trace (Err halt) old new = IsStopPut converts keeps IsTold naming with_trace halt.cause halt.harvest old new
+IsPutOf converts keeps IsWritten naming with_trace (Ok h) old new = IsHarvestPut converts keeps IsWritten naming with_trace h old new
+IsPutOf converts keeps IsWritten naming with_trace (Err halt) old new = IsStopPut converts keeps IsWritten naming with_trace halt.cause halt.harvest old new

@@ -9,8 +9,8 @@ use Rattle.frontier_core.specs.Invariants.{IsOverfull}
 use Rattle.frontier_core.specs.declared.event.Cause.{Cause}
 use Rattle.frontier_core.specs.declared.event.Cause.TheVariants as why
 use Rattle.frontier_core.specs.declared.event.Event.{Event}
-use Rattle.workers.specs.declared.crew_retrieval.Noted.{Noted}
-use Rattle.workers.specs.declared.crew_retrieval.Noted.TheVariants as known
+use Rattle.workers.specs.declared.crew_retrieval.KnownNotes.{KnownNotes}
+use Rattle.workers.specs.declared.crew_retrieval.KnownNotes.TheVariants as known
 use Rattle.workers.specs.Asks.{AreOnce}
 use Rattle.workers.specs.Crews.{AreLater, all_gained, SomeSays, SomeRules}
 use Rattle.harvest.specs.Gathered.{AreEntries}
@@ -34,14 +34,14 @@ module _ {F B : Type 0} (m : Meaning F B) where
     pub full : cause ≡ why.Full → HasTooMany (policy plan) (answers h.state) × IsOverfull (policy plan) h.state
 
   -- what is known of the notes: all of them, or that nothing was requested twice
-  abbrev pub IsAccount : Plan → List F → List F → Noted B → Type 0
+  abbrev pub IsAccount : Plan → List F → List F → KnownNotes B → Type 0
   IsAccount plan old new (known.All notes) =
       AreNoted (SomeSays m old new) (SomeRules m old new) plan (all_gained m old new) notes.pages.items notes.rules.items
   IsAccount plan old new known.Once = AreOnce (all_gained m old new)
   IsAccount plan old new known.Twice = Unit {0}
 
   -- if the notes are known, and by some lines each was noted by its taker, each fetcher was to request what its worker took
-  abbrev pub IsOwnAccount : List F → List F → Noted B → Type 0
+  abbrev pub IsOwnAccount : List F → List F → KnownNotes B → Type 0
   IsOwnAccount old new (known.All notes) = (trace : List Event) → AreNotedBy notes.pages.items notes.rules.items trace → AreOwn m 0 old new trace
   IsOwnAccount old new known.Once = Unit {0}
   IsOwnAccount old new known.Twice = Unit {0}

@@ -27,7 +27,7 @@ use Rattle.workers.specs.inner.Turns.{IsNothing}
 
 -- a body is noted exactly if the page is kept
 abbrev pub HasBody : {B : Type 0} → Plan → PageNote B → Type 0
-HasBody plan note = MatchOption note.told (note.body ≡ None) (λ x. is_some note.body ≡ (keeps_of plan note.address && is_success x))
+HasBody plan note = MatchOption note.outcome (note.body ≡ None) (λ x. is_some note.body ≡ (keeps_of plan note.address && is_success x))
 
 -- The frontier went by the plan and is the replay of its trace; what was noted, put in order, agrees with its table; and the
 -- harvest is made of both.

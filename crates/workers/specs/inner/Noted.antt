@@ -11,22 +11,22 @@ use Rattle.workers.specs.declared.note.PageNote.{PageNote}
 use Rattle.workers.specs.declared.note.RulesNote.{RulesNote}
 use Rattle.harvest.specs.declared.page.KeptPage.{KeptPage}
 use Rattle.workers.specs.Asks.{pages_asked, origins_asked}
-use Rattle.workers.specs.inner.Notes.{IsToldPage, IsToldRules, addresses, origins}
+use Rattle.workers.specs.inner.Notes.{IsPageOfSite, AreRulesOfSite, addresses, origins}
 
 -- each ask has its note, in whatever order, and what was noted of an answer is what may be said
 pub record AreNoted {B : Type 0} (may_say : Text → Outcome → B → Type 0) (may_rule : Text → RuleSetValue → Type 0) (plan : Plan) (asks : List Ask) (notes : List (PageNote B)) (sets : List RulesNote) : Type 0 where
   pub pages : IsPermutation (pages_asked asks) (addresses notes)
   pub rules : IsPermutation (origins_asked asks) (origins sets)
-  pub told : All (IsToldPage may_say plan) notes
-  pub ruled : All (IsToldRules may_rule) sets
+  pub told : All (IsPageOfSite may_say plan) notes
+  pub ruled : All (AreRulesOfSite may_rule) sets
 
 -- what was noted of a page is in the table: its outcome is recorded, or it was given up
 abbrev pub StandsPage : {B : Type 0} → State → PageNote B → Type 0
-StandsPage s note = MatchOption note.told (IsGivenUp s note.address) (λ x. (answers s).outcome note.address ≡ Some x)
+StandsPage s note = MatchOption note.outcome (IsGivenUp s note.address) (λ x. (answers s).outcome note.address ≡ Some x)
 
 -- what was noted of an origin is in the table: its rules are known, or they were given up
 abbrev pub StandsRules : State → RulesNote → Type 0
-StandsRules s note = MatchOption note.told (AreRulesGivenUp s note.origin) (λ rules. (answers s).rules note.origin ≡ Some rules)
+StandsRules s note = MatchOption note.rules (AreRulesGivenUp s note.origin) (λ rules. (answers s).rules note.origin ≡ Some rules)
 
 -- The notes agree with the table: nothing was requested twice, what was noted is in the table, and what is recorded there
 -- was noted.

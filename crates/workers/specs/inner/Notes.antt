@@ -19,12 +19,12 @@ body_of plan u x body = if keeps_of plan u && is_success x then Some body else N
 
 -- what was noted of a page is what may be said of it: the outcome goes with some body, which is noted if
 -- the page is kept
-abbrev pub IsToldPage : {B : Type 0} → (Text → Outcome → B → Type 0) → Plan → PageNote B → Type 0
-IsToldPage {B = B} may_say plan note = MatchOption note.told (note.body ≡ None) (λ x. (body : B) × may_say note.address x body × (note.body ≡ body_of plan note.address x body))
+abbrev pub IsPageOfSite : {B : Type 0} → (Text → Outcome → B → Type 0) → Plan → PageNote B → Type 0
+IsPageOfSite {B = B} may_say plan note = MatchOption note.outcome (note.body ≡ None) (λ x. (body : B) × may_say note.address x body × (note.body ≡ body_of plan note.address x body))
 
 -- the rules that were noted of an origin are some that it may have
-abbrev pub IsToldRules : (Text → RuleSetValue → Type 0) → RulesNote → Type 0
-IsToldRules may_rule note = IfSome note.told (λ rules. may_rule note.origin rules)
+abbrev pub AreRulesOfSite : (Text → RuleSetValue → Type 0) → RulesNote → Type 0
+AreRulesOfSite may_rule note = IfSome note.rules (λ rules. may_rule note.origin rules)
 
 -- the addresses of notes, and the origins
 abbrev pub addresses : {B : Type 0} → List (PageNote B) → List Text
@@ -46,7 +46,7 @@ pub record Goes {F B : Type 0} (m : Meaning F B) (plan : Plan) (worker : ℕ) (o
   pub sets_are : new.1.rules.items ≡ old.1.rules.items ++ sets
   pub pages_noted : pages_asked asks ≡ addresses pages
   pub rules_noted : origins_asked asks ≡ origins sets
-  pub told : All (IsToldPage (m.says (m.site old.0)) plan) pages
-  pub ruled : All (IsToldRules (m.rules (m.site old.0))) sets
+  pub told : All (IsPageOfSite (m.says (m.site old.0)) plan) pages
+  pub ruled : All (AreRulesOfSite (m.rules (m.site old.0))) sets
   pub own : All (λ note. note.worker ≡ worker) pages
   pub own_sets : All (λ note. note.worker ≡ worker) sets

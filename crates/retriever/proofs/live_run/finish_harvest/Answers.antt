@@ -4,8 +4,8 @@ use Rattle.report.specs.ExitStatus.{exit_status}
 use Rattle.local_tree.specs.Folders.{holding}
 use Rattle.retriever.specs.Keeping.{kept_as}
 use Rattle.retriever.specs.Mirrored.{kept_as_named}
-use Rattle.retriever.specs.inner.Parts.{IsToldAs}
-use Rattle.retriever.specs.inner.Puts.{IsPutAndTold}
+use Rattle.retriever.specs.inner.Parts.{IsWrittenAs}
+use Rattle.retriever.specs.inner.Puts.{IsPutAndWritten}
 use Rattle.retriever.proofs.live_run.finish_harvest.Goals as goal
 
 pub returns-in-Ok : goal.returns-in-Ok
@@ -15,13 +15,13 @@ returns-in-Ok g c =
     let h = c.args.harvest.now in
     let keeps = kept_as g.B.HasKind.kind_of g.B.HasKind.len_of g.D.Shelf.holds in
     let old = holding g.D.Folder.files g.D.Folder.failed c.args.folder.now in
-    let new = holding g.D.Folder.files g.D.Folder.failed c.put_and_tell.new.folder in
-    let is_told = IsToldAs (g.W.Write.contents c.args.writer.now) (g.W.Write.contents c.put_and_tell.new.writer) c.put_and_tell.result in
+    let new = holding g.D.Folder.files g.D.Folder.failed c.put_and_write.new.folder in
+    let is_written = IsWrittenAs (g.W.Write.contents c.args.writer.now) (g.W.Write.contents c.put_and_write.new.writer) c.put_and_write.result in
     let wanted = exit_status (map (λ recorded. recorded.1) h.records) in
     inr (
       given.read,
       map string_bytes telling.names.items,
       given.naming,
-      subst (λ (text : List ℕ). IsPutAndTold c.args.converts keeps is_told (kept_as_named h (map string_bytes telling.names.items)) h.bodies (text, wanted) old new) (c.as_str.ensures.value ∙ given.text)
-          (subst (λ (names : List (String Global)). IsPutAndTold c.args.converts keeps is_told (kept_as_named h (map string_bytes names)) h.bodies (c.as_str.result.now, wanted) old new) c.as_slice.ensures.value c.put_and_tell.ensures),
+      subst (λ (text : List ℕ). IsPutAndWritten c.args.converts keeps is_written (kept_as_named h (map string_bytes telling.names.items)) h.bodies (text, wanted) old new) (c.as_str.ensures.value ∙ given.text)
+          (subst (λ (names : List (String Global)). IsPutAndWritten c.args.converts keeps is_written (kept_as_named h (map string_bytes names)) h.bodies (c.as_str.result.now, wanted) old new) c.as_slice.ensures.value c.put_and_write.ensures),
     )

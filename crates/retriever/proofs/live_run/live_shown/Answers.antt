@@ -4,7 +4,7 @@ use Rattle.local_tree.specs.Folders.{holding}
 use Rattle.workers.specs.Quotas.{KeepsTo}
 use Rattle.retriever.specs.Found.{crew_of, outside}
 use Rattle.retriever.specs.Keeping.{kept_as}
-use Rattle.retriever.specs.inner.Parts.{IsToldAs}
+use Rattle.retriever.specs.inner.Parts.{IsWrittenAs}
 use Rattle.retriever.proofs.LiveLaws.{crew_ends, lives_from, of_crew}
 use Rattle.retriever.proofs.LogLaws.{retrieved_by}
 use Rattle.retriever.proofs.live_run.live_shown.Goals as goal
@@ -22,10 +22,10 @@ returns g c =
     let crew = crew_of F keeps olds news in
     let by = of_crew crew r c.args.fetchers.len c.args.fetchers.ok.0 known.numbered known.own in
     let ends = crew_ends crew c.args.order.now r (holding D.files D.failed c.args.folder.now) (holding D.files D.failed c.finish-told.new.folder)
-    (IsToldAs (W.contents c.args.writer.now) (W.contents c.finish-told.new.writer) c.finish-told.result)
+    (IsWrittenAs (W.contents c.args.writer.now) (W.contents c.finish-told.new.writer) c.finish-told.result)
     known.ok known.err known.full (λ is. known.one (c.args.fetchers.ok.0 ∙ is)) by (subst (λ most. KeepsTo most g.F.Body.HasKind.len_of r) c.of-quota.ensures known.quota) c.finish-told.ensures in
     record {
       lives = lives_from F keeps c.args.order.now olds news (outside (holding D.files D.failed c.args.folder.now) (W.contents c.args.writer.now))
-          (outside (holding D.files D.failed c.finish-told.new.folder) (W.contents c.finish-told.new.writer)) c.finish-told.result c.status_told-status.result known.fetchers c.status_told-status.ensures ends;
+          (outside (holding D.files D.failed c.finish-told.new.folder) (W.contents c.finish-told.new.writer)) c.finish-told.result c.last_status-status.result known.fetchers c.last_status-status.ensures ends;
       retrieved = retrieved_by F c.args.order.now.plan olds news r known.fetchers known.ok;
     }

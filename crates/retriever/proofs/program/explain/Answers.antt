@@ -16,9 +16,9 @@ returns-in-Ok g c =
       explained = inl (
         subst (λ (text : List ℕ). IsDelivered before after text (fault_status c.args.fault) c.deliver.result) line
             (subst (λ (wanted : ℕ). IsDelivered before after c.as_bytes.result.now wanted c.deliver.result) c.status.ensures c.deliver.ensures),
-        subst (λ (text : List ℕ). AppendsFront (g.E.Write.contents c.args.errors.now) (g.E.Write.contents c.tell.new.errors) text) advice c.tell.ensures.told,
+        subst (λ (text : List ℕ). AppendsFront (g.E.Write.contents c.args.errors.now) (g.E.Write.contents c.write_advice.new.errors) text) advice c.write_advice.ensures.told,
       );
-      quiet = λ none. c.tell.ensures.quiet (advice ∙ none);
+      quiet = λ none. c.write_advice.ensures.quiet (advice ∙ none);
     }
 
 pub returns-in-Err : goal.returns-in-Err

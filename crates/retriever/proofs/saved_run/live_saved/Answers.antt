@@ -6,7 +6,7 @@ use Rattle.workers.specs.Quotas.{KeepsTo}
 use Rattle.site_records.specs.WrittenRecords.{record_text}
 use Rattle.retriever.specs.Found.{crew_of}
 use Rattle.retriever.specs.Keeping.{in_memory, len_in}
-use Rattle.retriever.specs.inner.Parts.{IsToldAs}
+use Rattle.retriever.specs.inner.Parts.{IsWrittenAs}
 use Rattle.retriever.specs.Saving.{IsSaved}
 use Rattle.retriever.proofs.LiveLaws.{crew_ends, of_crew}
 use Rattle.retriever.proofs.LogLaws.{retrieved_by}
@@ -25,7 +25,7 @@ returns-clause-lives g c =
     let by = of_crew crew r c.args.fetchers.len c.args.fetchers.ok.0 known.numbered known.own in
     let (shown, ending, ends, written) = crew_ends crew c.args.order.now r
     (holding D.files D.failed c.args.folder.now) (holding D.files D.failed c.finish-told.new.folder)
-    (IsToldAs (g.W.Write.contents c.args.writer.now) (g.W.Write.contents c.finish-told.new.writer) c.finish-told.result)
+    (IsWrittenAs (g.W.Write.contents c.args.writer.now) (g.W.Write.contents c.finish-told.new.writer) c.finish-told.result)
     known.ok known.err known.full (λ is. known.one (c.args.fetchers.ok.0 ∙ is)) by (subst (λ most. KeepsTo most len_in r) c.of-quota.ensures known.quota) c.finish-told.ensures in
     record {
       left = news;
@@ -36,7 +36,7 @@ returns-clause-lives g c =
       saving = c.save-saving.result;
       saved = subst (λ (left : List g.row.F.Denot). IsSaved c.save-saving.result (g.V.Write.contents c.args.saved.now) (g.V.Write.contents c.save-saving.new.saved)
           (record_text (c.args.given.now ++ flat_map noted left))) c.as_slice.ensures.value c.save-saving.ensures;
-      written = c.tell_saving_behind.ensures _ _ _ written;
+      written = c.write_saving_after.ensures _ _ _ written;
     }
 
 pub returns-clause-retrieved : goal.returns-clause-retrieved

@@ -23,5 +23,5 @@ pub returns-in-Err : goal.returns-in-Err
 returns-in-Err c =
     let u = c.args.origin.now in
     let found = c.binary_search_by.ensures.position (λ (x : RulesNote). slice_cmp nat_cmp x.origin u) (always_returns_same _ _ _ (λ a r f' k. search rules)) in
-    let none = absent_named (λ (x : RulesNote). x.origin) c.args.notes.now u c.binary_search_by.result (ap is_ok c.in-Err.is) c.requires found (record { worker = 0; origin = c.args.origin.now; told = None }) in
+    let none = absent_named (λ (x : RulesNote). x.origin) c.args.notes.now u c.binary_search_by.result (ap is_ok c.in-Err.is) c.requires found (record { worker = 0; origin = c.args.origin.now; rules = None }) in
     ((λ _. by_none (λ (x : RulesNote). x.origin) (λ (x : RulesNote). x.worker) c.args.notes.now u c.args.worker none), λ _. refl)

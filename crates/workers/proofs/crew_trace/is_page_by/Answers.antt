@@ -23,5 +23,5 @@ pub returns-in-Err : goal.returns-in-Err
 returns-in-Err g c =
     let u = c.args.address.now in
     let found = c.binary_search_by.ensures.position (λ (x : PageNote g.row.B.Denot). slice_cmp nat_cmp x.address u) (always_returns_same _ _ _ (λ a r f' k. search rules)) in
-    let none = absent_named (λ (x : PageNote g.row.B.Denot). x.address) c.args.notes.now u c.binary_search_by.result (ap is_ok c.in-Err.is) c.requires found (record { worker = 0; address = c.args.address.now; told = None; body = None }) in
+    let none = absent_named (λ (x : PageNote g.row.B.Denot). x.address) c.args.notes.now u c.binary_search_by.result (ap is_ok c.in-Err.is) c.requires found (record { worker = 0; address = c.args.address.now; outcome = None; body = None }) in
     ((λ _. by_none (λ (x : PageNote g.row.B.Denot). x.address) (λ (x : PageNote g.row.B.Denot). x.worker) c.args.notes.now u c.args.worker none), λ _. refl)

@@ -22,9 +22,9 @@ returns-in_default-ask g c =
     let logged : F.log c.ask.new.self ≡ F.log c.args.fetcher.now ++ ask.Page c.address-2.result.now ∷ [] =
     was_logged (F.log c.args.fetcher.now) (F.log c.ask.new.self) (ask.Page c.address-2.result.now) c.in_default-ask.ensures.refused
     (λ same. c.if-asks-before.false (ap length c.asks.ensures ∙ (same ∙ sym (ap length c.asks-before.ensures)))) in
-    goes_page F c.args.plan.now c.args.worker c.args.fetcher.now c.ask.new.self c.args.notes.now _ (record { worker = c.args.worker; address = c.in-Ok.address; told = None; body = None }) c.in_default-ask.ensures.site
+    goes_page F c.args.plan.now c.args.worker c.args.fetcher.now c.ask.new.self c.args.notes.now _ (record { worker = c.args.worker; address = c.in-Ok.address; outcome = None; body = None }) c.in_default-ask.ensures.site
     (subst (λ u. F.log c.ask.new.self ≡ F.log c.args.fetcher.now ++ ask.Page u ∷ []) name logged)
-    (noted_after _ _ _ _ (c.push_reserved.ensures.items ∙ ap (λ n. c.make_page_room.new.notes.pages.items ++ n ∷ []) c.untold_page.ensures) c.make_page_room.ensures.pages) c.make_page_room.ensures.rules refl refl
+    (noted_after _ _ _ _ (c.push_reserved.ensures.items ∙ ap (λ n. c.make_page_room.new.notes.pages.items ++ n ∷ []) c.unanswered_page.ensures) c.make_page_room.ensures.pages) c.make_page_room.ensures.rules refl refl
 
 pub returns : goal.returns
 returns g c =

@@ -22,10 +22,10 @@ returns-in_default-ask_robots g c plan =
     let logged : F.log c.ask_robots.new.self ≡ F.log c.args.fetcher.now ++ ask.Rules c.origin-2.result.now ∷ [] =
     was_logged (F.log c.args.fetcher.now) (F.log c.ask_robots.new.self) (ask.Rules c.origin-2.result.now) c.in_default-ask_robots.ensures.refused
     (λ same. c.if-asks-before.false (ap length c.asks.ensures ∙ (same ∙ sym (ap length c.asks-before.ensures)))) in
-    goes_rules F plan c.args.worker c.args.fetcher.now c.ask_robots.new.self c.args.notes.now _ (record { worker = c.args.worker; origin = c.in-Ok.origin; told = None }) c.in_default-ask_robots.ensures.site
+    goes_rules F plan c.args.worker c.args.fetcher.now c.ask_robots.new.self c.args.notes.now _ (record { worker = c.args.worker; origin = c.in-Ok.origin; rules = None }) c.in_default-ask_robots.ensures.site
     (subst (λ u. F.log c.ask_robots.new.self ≡ F.log c.args.fetcher.now ++ ask.Rules u ∷ []) name logged)
     c.make_rules_room.ensures.pages
-    (noted_after _ _ _ _ (c.push_reserved.ensures.items ∙ ap (λ n. c.make_rules_room.new.notes.rules.items ++ n ∷ []) c.untold_rules.ensures) c.make_rules_room.ensures.rules) tt refl
+    (noted_after _ _ _ _ (c.push_reserved.ensures.items ∙ ap (λ n. c.make_rules_room.new.notes.rules.items ++ n ∷ []) c.unanswered_rules.ensures) c.make_rules_room.ensures.rules) tt refl
 
 pub returns : goal.returns
 returns g c plan =
