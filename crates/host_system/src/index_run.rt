@@ -410,8 +410,7 @@ impl<F: Drop> IndexRun<F> {
         push(&mut self.pages.lock(rt), page)
     }
 
-    /// Pages, whose addresses are in order, are to be put under these names: files of earlier runs that an index names give way, if one is
-    /// kept.
+    /// Pages, whose addresses are in order, are to be put under these names: files of earlier runs' pages give way, if any are known.
     pub(crate) fn make_way<R: Wait + Files>(
         &self,
         rt: &R,
@@ -424,7 +423,7 @@ impl<F: Drop> IndexRun<F> {
         let Some(begun) = shared(&mut self.begun.lock(rt)) else {
             return Ok(());
         };
-        if !begun.keeps_index() || begun.earlier.pages.index().len() == 0 {
+        if takes_nothing(begun.upkeep) || begun.earlier.pages.index().len() == 0 {
             return Ok(());
         }
         let earlier = begun.earlier.pages.index().entries();

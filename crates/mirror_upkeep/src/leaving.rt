@@ -3,7 +3,7 @@ ghost use Rattle.std.specs.Prelude.{◌≡◌, ◌++◌, IfOk, OnOk, map, string
 ghost use Rattle.std.specs.List.{filter};
 ghost use Rattle.std.specs.List.Sorted.{IsSorted};
 ghost use Rattle.address.specs.AddressOrder.{IsAscending};
-ghost use Rattle.mirror_upkeep.specs.Leaving.{files, files_of, is_gone, is_to_go, originals_of, other_name};
+ghost use Rattle.mirror_upkeep.specs.Leaving.{files, files_of, is_displaced, is_gone, is_to_go, originals_of, other_name};
 ghost use Rattle.mirror_upkeep.specs.Names.{has_name, is_in_way};
 ghost use Rattle.mirror_upkeep.specs.inner.Lent.{lent_text, text_cmp};
 
@@ -179,4 +179,37 @@ pub fn in_way(
 {
     let sorted = in_order(alloc, names)?;
     in_way_of(alloc, earlier, sorted.as_slice(), kept, backs_up)
+}
+
+// Those of these names that are directories of others, which are in order.
+fn displaced_among(
+    alloc: Global,
+    alone: &[String],
+    names: &[&[u8]],
+) -> Result<Vec<String>, AllocError>
+    requires { IsSorted text_cmp names.now }
+    ensures { IfOk result (λ leaving. map string_bytes leaving.items ≡ filter (is_displaced (map lent_text names.now)) (map string_bytes alone.now)) }
+{
+    let mut leaving = Vec::new(alloc);
+    let mut rest = alone;
+    'names: while let Some((name, later)) = rest.split_first() {
+        if has_below(alloc, names, name.as_str())? {
+            leaving.push(String::from_str(alloc, name.as_str())?)?;
+        }
+        rest = later;
+    }
+    Ok(leaving)
+}
+
+/// Those of the names that pages have by themselves whose files are to go before files of this run's names are put: directories are to
+/// be in their places. Fails only if memory runs out.
+pub fn displaced(
+    alloc: Global,
+    alone: &[String],
+    names: &[String],
+) -> Result<Vec<String>, AllocError>
+    ensures { IfOk result (λ leaving. map string_bytes leaving.items ≡ filter (is_displaced (map string_bytes names.now)) (map string_bytes alone.now)) }
+{
+    let sorted = in_order(alloc, names)?;
+    displaced_among(alloc, alone, sorted.as_slice())
 }
