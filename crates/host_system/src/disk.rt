@@ -234,7 +234,7 @@ where
         requires count { length names.now ≡ length parts.now }
         requires pages { length pages.now ≡ length parts.now }
     {
-        let _ = self.index.make_way(self.rt, self.failures, names, pages);
+        let _ = self.index.make_way(self.rt, self.failures, names, pages, parts);
         if !are_all_named(parts) {
             let _ = self.displace(names, pages, parts);
         }

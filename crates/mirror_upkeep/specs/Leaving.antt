@@ -33,3 +33,12 @@ is_to_go names kept e = is_gone names e && (has_name kept e.address || is_in_way
 -- a file of this run is to be in a directory of this name
 abbrev pub is_displaced : List Text → Text → Bool
 is_displaced names name = list_any (λ other. is_directory_of other name) names
+
+-- the copies of bodies as they came of the pages of these entries
+abbrev pub originals : Bool → List Text → List Entry → List Text
+originals backs_up names [] = []
+originals backs_up names (e ∷ es) = originals_of backs_up names e.name ++ originals backs_up names es
+
+-- a file of this name has another body since
+abbrev pub is_renewed : List Text → Entry → Bool
+is_renewed renewed e = has_name renewed e.name
