@@ -5,14 +5,16 @@ ghost use Rattle.address.specs.AddressOrder.{IsAscending};
 use crate::early_run::EarlyRun;
 use crate::index_run::IndexRun;
 use crate::part_threads::PartThreads;
+use crate::removed_files::remove_all;
 use crate::shared_failures::SharedFailures;
 use address::Address;
-use early_names::EarlyRules;
+use early_names::{EarlyRules, is_early};
 use kept_bodies::Body;
 use local_tree::{
     BodyChange, ChangeCrew, DiskFolder, FileToChange, Folder, FolderFault, NamesParts, Originals,
     Shelf, WriteFault, put_changed_parts, put_parts,
 };
+use mirror_upkeep::displaced;
 use part_keeper::{KeptPart, PartsDir, Standing};
 use record_journal::SavedFile;
 use std::alloc::{AllocError, Global};
@@ -81,6 +83,25 @@ where
         }
         Err(_) => folder.give_up(part),
     }
+}
+
+// Adds the name that a part might have had early, if it has none and gets another.
+fn push_alone(
+    alloc: Global,
+    rules: &EarlyRules,
+    alone: &mut Vec<String>,
+    name: &str,
+    page: &Address,
+    part: &KeptPart,
+) -> Result<(), AllocError> {
+    if !matches!(part.standing, Standing::Whole | Standing::Waiting) {
+        return Ok(());
+    }
+    let early = rules.name_of(alloc, part.kind, page)?;
+    if early.as_str() != name && is_early(early.as_str()) {
+        alone.push(early)?;
+    }
+    Ok(())
 }
 
 // Whether each of these parts has a name that it was given early. Then no other name is needed: of claimed names none is another or a
@@ -171,11 +192,52 @@ where
         }
     }
 
-    // Has files of earlier runs give way to these names of pages. What stays is in the way of a file.
-    fn make_way(&self, names: &[String], pages: &[Address])
-        requires { IsAscending pages.now }
+    // Has each file give way that is where a directory of these names is to be, if a page has the file's name by itself and gets another.
+    // If its body had come first it would have had that name, in the file's place, until it was moved back: so files don't depend on
+    // which came first.
+    fn displace(&self, names: &[String], pages: &[Address], parts: &[KeptPart]) -> io::Result<()>
+        requires count { length names.now ≡ length parts.now }
+        requires pages { length pages.now ≡ length parts.now }
     {
-        let _ = self.index.make_way(self.rt, self.failures, names, pages);
+        let Some(rules) = self.early.rules(self.rt) else {
+            return Ok(());
+        };
+        let mut alone = Vec::new(self.alloc);
+        for (i, name) in names.iter().enumerate() {
+            push_alone(
+                self.alloc,
+                &rules,
+                &mut alone,
+                name.as_str(),
+                &pages[i],
+                &parts[i],
+            )?;
+        }
+        if alone.is_empty() {
+            return Ok(());
+        }
+        let going = displaced(self.alloc, alone.as_slice(), names)?;
+        let folder = self.parts.folder(self.rt)?;
+        remove_all(
+            self.rt,
+            self.alloc,
+            self.failures,
+            folder.as_str(),
+            going.as_slice(),
+        );
+        Ok(())
+    }
+
+    // Has files that were there before give way to these names of pages. What stays is in the way of a file.
+    fn make_way(&self, names: &[String], pages: &[Address], parts: &[KeptPart])
+        requires order { IsAscending pages.now }
+        requires count { length names.now ≡ length parts.now }
+        requires pages { length pages.now ≡ length parts.now }
+    {
+        let _ = self.index.make_way(self.rt, self.failures, names, pages, parts);
+        if !are_all_named(parts) {
+            let _ = self.displace(names, pages, parts);
+        }
     }
 
     // Notes for the index that all these pages were put.
@@ -285,7 +347,7 @@ where
     ) -> Result<(), WriteFault> {
         self.take_parts();
         self.take_back(names, pages, bodies);
-        self.make_way(names, pages);
+        self.make_way(names, pages, bodies);
         let put = put_parts(self, names, bodies);
         if put.is_ok() {
             self.note_put(names, pages);
@@ -323,7 +385,7 @@ where
     ) -> Result<bool, WriteFault> {
         self.take_parts();
         self.take_back(names, pages, bodies);
-        self.make_way(names, pages);
+        self.make_way(names, pages, bodies);
         self.inner.keep_originals(self.originals, names);
         let put = put_changed_parts(alloc, self, names, bodies, change, crew);
         self.inner.end_puts();

@@ -1,5 +1,5 @@
 //! What earlier runs left in the folder, by the index and the journal that are there, and what this one leaves.
-ghost use Rattle.std.specs.Prelude.{◌≡◌, ◌||◌, Err, not, true};
+ghost use Rattle.std.specs.Prelude.{◌≡◌, ◌||◌, Err, length, not, true};
 ghost use Rattle.address.specs.AddressOrder.{IsAscending};
 ghost use Rattle.host_system.specs.declared.index_run.BeginFault.TheVariants.{Unfit};
 
@@ -13,9 +13,10 @@ use harvest::Harvest;
 use local_names::ORIGINAL;
 use mirror_index::{Entry, MirrorIndex};
 use mirror_upkeep::{
-    first_line, gone, in_way, is_same, is_sure, joined, named_pages, places_by_name,
+    first_line, gone, in_way, is_same, is_sure, joined, named_pages, outdated, places_by_name,
 };
 use options::{Order, Upkeep};
+use part_keeper::KeptPart;
 use std::alloc::{AllocError, Global};
 use std::fs::Files;
 use std::io::Write;
@@ -44,6 +45,27 @@ impl From<AllocError> for BeginFault {
     }
 }
 
+// What is known of earlier runs' pages.
+struct Known {
+    // The last of each.
+    pages: MirrorIndex,
+    // What the index says, if a run that was stopped says more.
+    before: MirrorIndex,
+    // Whether the index that is there says just what is known.
+    is_index_there: bool,
+}
+
+impl Known {
+    // These pages, and none that were others before.
+    fn just(alloc: Global, pages: MirrorIndex, is_index_there: bool) -> Known {
+        Known {
+            pages,
+            before: MirrorIndex::new(alloc),
+            is_index_there,
+        }
+    }
+}
+
 /// What a run was begun with.
 #[derive(Drop)]
 pub(crate) struct Begun {
@@ -56,6 +78,8 @@ pub(crate) struct Begun {
     has_originals: bool,
     /// What is known of earlier runs' pages.
     pub(crate) earlier: Arc<Earlier>,
+    // What the index said of them before pages of a run that was stopped took the places of some.
+    before: MirrorIndex,
     /// The places of the earlier pages' entries, in the order of their names.
     pub(crate) by_name: Vec<usize>,
     // Whether the index that is there says just what is known of earlier pages.
@@ -200,7 +224,29 @@ fn gone_of(alloc: Global, begun: &Begun, names: &[String]) -> Result<Vec<String>
     }
     let put = put_names(alloc, names, begun.has_originals)?;
     let earlier = begun.earlier.pages.index();
-    gone(alloc, earlier.entries(), put.as_slice(), begun.backs_up)
+    let mut all = gone(alloc, earlier.entries(), put.as_slice(), begun.backs_up)?;
+    let before = gone(alloc, begun.before.entries(), put.as_slice(), begun.backs_up)?;
+    for name in before.as_slice() {
+        all.push(String::from_str(alloc, name.as_str())?)?;
+    }
+    Ok(all)
+}
+
+// Those of these names whose parts have bodies that were received.
+fn renewed_names(
+    alloc: Global,
+    names: &[String],
+    parts: &[KeptPart],
+) -> Result<Vec<String>, AllocError>
+    requires { length names.now ≡ length parts.now }
+{
+    let mut renewed = Vec::new(alloc);
+    for (i, name) in names.iter().enumerate() {
+        if parts[i].is_received {
+            renewed.push(String::from_str(alloc, name.as_str())?)?;
+        }
+    }
+    Ok(renewed)
 }
 
 impl<F: Drop> IndexRun<F> {
@@ -298,8 +344,7 @@ impl<F: Drop> IndexRun<F> {
         Ok(pages)
     }
 
-    // What is known of earlier runs' pages below a folder, by these of one that was stopped and by the index, and whether that is there and
-    // says just this.
+    // What is known of earlier runs' pages below a folder, by these of one that was stopped and by the index.
     fn known_of<R: Wait + Files<File = F>>(
         &self,
         rt: &R,
@@ -307,19 +352,23 @@ impl<F: Drop> IndexRun<F> {
         folder: &str,
         upkeep: Upkeep,
         stopped: MirrorIndex,
-    ) -> Result<(MirrorIndex, bool), AllocError> {
+    ) -> Result<Known, AllocError> {
         if !keeps_index(upkeep) {
-            let known = if upkeep.continues {
+            let pages = if upkeep.continues {
                 stopped
             } else {
                 MirrorIndex::new(self.alloc)
             };
-            return Ok((known, false));
+            return Ok(Known::just(self.alloc, pages, false));
         }
         match index_of(rt, self.alloc, failures, folder)? {
-            Some(index) if stopped.len() == 0 => Ok((index, true)),
-            Some(index) => Ok((joined(self.alloc, &index, &stopped)?, false)),
-            None => Ok((stopped, false)),
+            Some(index) if stopped.len() == 0 => Ok(Known::just(self.alloc, index, true)),
+            Some(index) => Ok(Known {
+                pages: joined(self.alloc, &index, &stopped)?,
+                before: index,
+                is_index_there: false,
+            }),
+            None => Ok(Known::just(self.alloc, stopped, false)),
         }
     }
 
@@ -355,14 +404,12 @@ impl<F: Drop> IndexRun<F> {
         let upkeep = order.upkeep;
         let folder = String::from_str(self.alloc, order.prefix.as_str())?;
         let stopped = self.begin_journal(rt, failures, folder.as_str(), order)?;
-        let (known, is_index_there) = self.known_of(
-            rt,
-            failures,
-            folder.as_str(),
-            upkeep,
-            stopped,
-        )?;
-        let earlier = self.earlier_of(folder.as_str(), upkeep, known)?;
+        let Known {
+            pages,
+            before,
+            is_index_there,
+        } = self.known_of(rt, failures, folder.as_str(), upkeep, stopped)?;
+        let earlier = self.earlier_of(folder.as_str(), upkeep, pages)?;
         let begun = Begun {
             folder,
             upkeep,
@@ -370,6 +417,7 @@ impl<F: Drop> IndexRun<F> {
             has_originals: order.names.rules.has_originals,
             by_name: places_by_name(self.alloc, earlier.pages.index().entries())?,
             is_index_there,
+            before,
             earlier,
         };
         let begun = in_common(self.alloc, begun)?;
@@ -410,27 +458,34 @@ impl<F: Drop> IndexRun<F> {
         push(&mut self.pages.lock(rt), page)
     }
 
-    /// Pages, whose addresses are in order, are to be put under these names: files of earlier runs that an index names give way, if one is
-    /// kept.
+    /// Pages, whose addresses are in order, are to be put under these names: files of earlier runs' pages give way, if any are known, and
+    /// the bodies that were kept of pages whose files have others from now on.
     pub(crate) fn make_way<R: Wait + Files>(
         &self,
         rt: &R,
         failures: &SharedFailures,
         names: &[String],
         pages: &[Address],
+        parts: &[KeptPart],
     ) -> Result<(), AllocError>
-        requires { IsAscending pages.now }
+        requires order { IsAscending pages.now }
+        requires count { length names.now ≡ length parts.now }
     {
         let Some(begun) = shared(&mut self.begun.lock(rt)) else {
             return Ok(());
         };
-        if !begun.keeps_index() || begun.earlier.pages.index().len() == 0 {
+        let earlier = begun.earlier.pages.index().entries();
+        if takes_nothing(begun.upkeep) || earlier.is_empty() {
             return Ok(());
         }
-        let earlier = begun.earlier.pages.index().entries();
-        let gone = in_way(self.alloc, earlier, names, pages, begun.backs_up)?;
         let folder = begun.folder.as_str();
-        remove_all(rt, self.alloc, failures, folder, gone.as_slice());
+        for entries in [earlier, begun.before.entries()].as_slice() {
+            let going = in_way(self.alloc, entries, names, pages, begun.backs_up)?;
+            remove_all(rt, self.alloc, failures, folder, going.as_slice());
+        }
+        let renewed = renewed_names(self.alloc, names, parts)?;
+        let copies = outdated(self.alloc, earlier, names, renewed.as_slice(), begun.backs_up)?;
+        remove_all(rt, self.alloc, failures, folder, copies.as_slice());
         Ok(())
     }
 

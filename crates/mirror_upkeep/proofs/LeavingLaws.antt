@@ -6,7 +6,7 @@ use Rattle.std.proofs.lemmas.List.Elements.{filter_agree}
 use Rattle.std.proofs.lemmas.List.Sorted.{list_any-IsPermutation}
 use Rattle.address.specs.Address.{AddressText}
 use Rattle.mirror_index.specs.Entries.{Entry, Text}
-use Rattle.mirror_upkeep.specs.Leaving.{files, files_of, is_gone, is_to_go, originals_of, other_name}
+use Rattle.mirror_upkeep.specs.Leaving.{files, files_of, is_displaced, is_gone, is_renewed, is_to_go, originals, originals_of, other_name}
 use Rattle.mirror_upkeep.specs.Names.{has_name, is_directory_of, is_in_way}
 use Rattle.mirror_upkeep.proofs.NameLaws.{has_moved}
 
@@ -62,3 +62,45 @@ module _ (xs ys : List Text) (moved : IsPermutation ys xs) where
 
   pub way_moved : (backs_up : Bool) (kept : List AddressText) (es : List Entry) → files backs_up xs (filter (is_to_go xs kept) es) ≡ files backs_up ys (filter (is_to_go ys kept) es)
   way_moved backs_up kept es = same_files backs_up (filter (is_to_go xs kept) es) ∙ ap (files backs_up ys) (filter_agree (is_to_go xs kept) (is_to_go ys kept) (same_to_go kept) es)
+
+  pub originals_moved : (backs_up : Bool) (es : List Entry) → originals backs_up xs es ≡ originals backs_up ys es
+  originals_moved backs_up [] = refl
+  originals_moved backs_up (e ∷ es) =
+      ap (λ (ns : List Text). ns ++ originals backs_up xs es) (same_originals backs_up e.name) ∙ ap (λ (ns : List Text). originals_of backs_up ys e.name ++ ns) (originals_moved backs_up es)
+
+  pub renewed_moved : (es : List Entry) → filter (is_renewed xs) es ≡ filter (is_renewed ys) es
+  renewed_moved es = filter_agree (is_renewed xs) (is_renewed ys) (λ e. same_has e.name) es
+
+  pub displaced_moved : (alone : List Text) → filter (is_displaced xs) alone ≡ filter (is_displaced ys) alone
+  displaced_moved alone = filter_agree (is_displaced xs) (is_displaced ys) (λ name. sym (list_any-IsPermutation (λ other. is_directory_of other name) ys xs moved)) alone
+
+-- the names so far and those of the rest are all, after one more name that goes
+pub one_more_name : (goes : Text → Bool) (name : Text) (later rest old new all : List Text)
+    → rest ≡ name ∷ later → goes name ≡ true → new ≡ old ++ (name ∷ [])
+    → old ++ filter goes rest ≡ all → new ++ filter goes later ≡ all
+one_more_name goes name later rest old new all begins this added before =
+    let with_this : filter goes (name ∷ later) ≡ name ∷ filter goes later = ap (λ (b : Bool). cond b (name ∷ filter goes later) (filter goes later)) this in
+    ap (λ (ns : List Text). ns ++ filter goes later) added
+    ∙ append_assoc old (name ∷ []) (filter goes later)
+    ∙ ap (λ (ns : List Text). old ++ ns) (sym with_this)
+    ∙ ap (λ (ns : List Text). old ++ filter goes ns) (sym begins)
+    ∙ before
+
+-- the copies so far and those of the rest are all, after one more entry's
+pub one_more_copied : (backs_up : Bool) (names : List Text) (goes : Entry → Bool) (e : Entry) (later rest : List Entry) (old new all : List Text)
+    → rest ≡ e ∷ later → goes e ≡ true → new ≡ old ++ originals_of backs_up names e.name
+    → old ++ originals backs_up names (filter goes rest) ≡ all → new ++ originals backs_up names (filter goes later) ≡ all
+one_more_copied backs_up names goes e later rest old new all begins this added before =
+    let after = originals backs_up names (filter goes later) in
+    let with_this : filter goes (e ∷ later) ≡ e ∷ filter goes later = ap (λ (b : Bool). cond b (e ∷ filter goes later) (filter goes later)) this in
+    ap (λ (ns : List Text). ns ++ after) added
+    ∙ append_assoc old (originals_of backs_up names e.name) after
+    ∙ ap (λ (es : List Entry). old ++ originals backs_up names es) (sym with_this)
+    ∙ ap (λ (es : List Entry). old ++ originals backs_up names (filter goes es)) (sym begins)
+    ∙ before
+
+-- the same copies of the same renewed files, of other lists of the same names
+pub outdated_moved : (xs ys ms ns : List Text) → IsPermutation ys xs → IsPermutation ns ms → (backs_up : Bool) (es : List Entry)
+    → originals backs_up xs (filter (is_renewed ms) es) ≡ originals backs_up ys (filter (is_renewed ns) es)
+outdated_moved xs ys ms ns moved others backs_up es =
+    originals_moved xs ys moved backs_up (filter (is_renewed ms) es) ∙ ap (originals backs_up ys) (renewed_moved ms ns others es)

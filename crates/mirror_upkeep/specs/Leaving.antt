@@ -2,7 +2,8 @@
 use Rattle.std.specs.Prelude.{◌++◌, ◌&&◌, ◌||◌, Bool, not, List, [], ◌∷◌, codes, if◌then◌else◌}
 use Rattle.address.specs.Address.{AddressText}
 use Rattle.mirror_index.specs.Entries.{Entry, Text}
-use Rattle.mirror_upkeep.specs.Names.{has_name, is_in_way}
+use Rattle.std.specs.List.{list_any}
+use Rattle.mirror_upkeep.specs.Names.{has_name, is_directory_of, is_in_way}
 
 -- the name, unless it is one of these
 abbrev pub other_name : List Text → Text → List Text
@@ -28,3 +29,16 @@ is_gone names e = not (has_name names e.name)
 -- so it is, and the page is kept under another name, or its file is in the way
 abbrev pub is_to_go : List Text → List AddressText → Entry → Bool
 is_to_go names kept e = is_gone names e && (has_name kept e.address || is_in_way names e.name)
+
+-- a file of this run is to be in a directory of this name
+abbrev pub is_displaced : List Text → Text → Bool
+is_displaced names name = list_any (λ other. is_directory_of other name) names
+
+-- the copies of bodies as they came of the pages of these entries
+abbrev pub originals : Bool → List Text → List Entry → List Text
+originals backs_up names [] = []
+originals backs_up names (e ∷ es) = originals_of backs_up names e.name ++ originals backs_up names es
+
+-- a file of this name has another body since
+abbrev pub is_renewed : List Text → Entry → Bool
+is_renewed renewed e = has_name renewed e.name

@@ -3,7 +3,7 @@ ghost use Rattle.std.specs.Prelude.{◌≡◌, ◌++◌, IfOk, OnOk, map, string
 ghost use Rattle.std.specs.List.{filter};
 ghost use Rattle.std.specs.List.Sorted.{IsSorted};
 ghost use Rattle.address.specs.AddressOrder.{IsAscending};
-ghost use Rattle.mirror_upkeep.specs.Leaving.{files, files_of, is_gone, is_to_go, originals_of, other_name};
+ghost use Rattle.mirror_upkeep.specs.Leaving.{files, files_of, is_displaced, is_gone, is_renewed, is_to_go, originals, originals_of, other_name};
 ghost use Rattle.mirror_upkeep.specs.Names.{has_name, is_in_way};
 ghost use Rattle.mirror_upkeep.specs.inner.Lent.{lent_text, text_cmp};
 
@@ -179,4 +179,77 @@ pub fn in_way(
 {
     let sorted = in_order(alloc, names)?;
     in_way_of(alloc, earlier, sorted.as_slice(), kept, backs_up)
+}
+
+// Those of these names that are directories of others, which are in order.
+fn displaced_among(
+    alloc: Global,
+    alone: &[String],
+    names: &[&[u8]],
+) -> Result<Vec<String>, AllocError>
+    requires { IsSorted text_cmp names.now }
+    ensures { IfOk result (λ leaving. map string_bytes leaving.items ≡ filter (is_displaced (map lent_text names.now)) (map string_bytes alone.now)) }
+{
+    let mut leaving = Vec::new(alloc);
+    let mut rest = alone;
+    'names: while let Some((name, later)) = rest.split_first() {
+        if has_below(alloc, names, name.as_str())? {
+            leaving.push(String::from_str(alloc, name.as_str())?)?;
+        }
+        rest = later;
+    }
+    Ok(leaving)
+}
+
+/// Those of the names that pages have by themselves whose files are to go before files of this run's names are put: directories are to
+/// be in their places. Fails only if memory runs out.
+pub fn displaced(
+    alloc: Global,
+    alone: &[String],
+    names: &[String],
+) -> Result<Vec<String>, AllocError>
+    ensures { IfOk result (λ leaving. map string_bytes leaving.items ≡ filter (is_displaced (map string_bytes names.now)) (map string_bytes alone.now)) }
+{
+    let sorted = in_order(alloc, names)?;
+    displaced_among(alloc, alone, sorted.as_slice())
+}
+
+// The names of the files of the bodies as they came of entries whose names are among these renewed ones. Both lists are in order.
+fn outdated_among(
+    alloc: Global,
+    earlier: &[Entry],
+    names: &[&[u8]],
+    renewed: &[&[u8]],
+    backs_up: bool,
+) -> Result<Vec<String>, AllocError>
+    requires names { IsSorted text_cmp names.now }
+    requires renewed { IsSorted text_cmp renewed.now }
+    ensures { IfOk result (λ leaving. map string_bytes leaving.items ≡ originals backs_up (map lent_text names.now) (filter (is_renewed (map lent_text renewed.now)) earlier.now)) }
+{
+    let mut leaving = Vec::new(alloc);
+    let mut rest = earlier;
+    'entries: while let Some((entry, later)) = rest.split_first() {
+        if is_among(renewed, entry.name().as_bytes()) {
+            push_originals(alloc, &mut leaving, names, entry.name(), backs_up)?;
+        }
+        rest = later;
+    }
+    Ok(leaving)
+}
+
+/// The names of the files of an earlier run's bodies as they came whose pages' files are renewed, under the same names, by bodies that were
+/// received since: beside them, if such are kept, and in the program's own directory. None is a name of this run. Fails only if memory runs
+/// out.
+pub fn outdated(
+    alloc: Global,
+    earlier: &[Entry],
+    names: &[String],
+    renewed: &[String],
+    backs_up: bool,
+) -> Result<Vec<String>, AllocError>
+    ensures { IfOk result (λ leaving. map string_bytes leaving.items ≡ originals backs_up (map string_bytes names.now) (filter (is_renewed (map string_bytes renewed.now)) earlier.now)) }
+{
+    let sorted = in_order(alloc, names)?;
+    let renewed = in_order(alloc, renewed)?;
+    outdated_among(alloc, earlier, sorted.as_slice(), renewed.as_slice(), backs_up)
 }

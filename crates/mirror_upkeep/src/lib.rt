@@ -18,7 +18,7 @@ mod sureness;
 pub use crate::by_name::{is_anothers, places_by_name};
 pub use crate::joining::{joined, named_pages};
 pub use crate::journal::{first_line, push_entry};
-pub use crate::leaving::{gone, in_way};
+pub use crate::leaving::{displaced, gone, in_way, outdated};
 pub use crate::reading::{JournalFault, read_journal, reason};
 pub use crate::sameness::is_same;
 pub use crate::sureness::is_sure;

@@ -49,6 +49,8 @@ pub(crate) struct FileChange {
     original_part: String,
     kind: BodyKind,
     len: u64,
+    // Whether the body is new, and no earlier run's.
+    is_received: bool,
 }
 
 // What room is filled with, many bytes at a time.
@@ -136,6 +138,7 @@ impl FileChange {
             original_part: format!(in alloc; "{own}/part{ORIGINAL}")?,
             kind: file.part.kind,
             len: file.part.len,
+            is_received: file.part.is_received,
         })
     }
 
@@ -200,6 +203,18 @@ impl FileChange {
         }
     }
 
+    // Removes the body that an earlier run kept beside the file, which has the same bytes now.
+    fn drop_outdated<R: Files>(&self, rt: &R) {
+        if self.is_received {
+            return;
+        }
+        if let Original::Beside(path) = &self.original {
+            if look_for_file(rt, path.as_str()).is_ok() {
+                let _ = rt.remove_file(path.as_str());
+            }
+        }
+    }
+
     // Has the file have what is to be in place of its body, with its time, if that is another one. The body is kept first, so that it is
     // nowhere missing.
     fn make<R: Files, C: BodyChange>(
@@ -221,6 +236,7 @@ impl FileChange {
         };
         let body = body.as_slice();
         let Some(other) = changed(alloc, self.place, self.kind, body, change)? else {
+            self.drop_outdated(rt);
             return Ok(());
         };
         write_new(rt, self.part.as_str(), other.as_slice(), modified)?;
