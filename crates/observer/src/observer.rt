@@ -1,7 +1,7 @@
-//! What an observer is told.
+//! What is reported to an observer.
 
-/// Is told how a run goes on, by all of its workers, and of what it doesn't implement hears nothing. A call may come from under a
-/// lock, so it waits for nothing.
+/// Receives reports of how a run goes on, from all of its workers, and ignores those that it doesn't implement. A call may come from
+/// under a lock, so it waits for nothing.
 pub trait Observer {
     /// A request over a connection has ended, and so many bytes came with it. It failed if the connection wasn't made, or broke.
     fn ended(&self, _has_failed: bool, _bytes: u64) {}

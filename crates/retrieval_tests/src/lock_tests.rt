@@ -18,21 +18,21 @@ fn opened(rt: &impl Abort, alloc: Global) -> Frontier {
     Frontier::open(alloc, plan).expect(rt, "memory")
 }
 
-/// Keeps how many wait, as it is told.
+/// Keeps how many wait, as is reported to it.
 #[derive(Drop)]
 struct Waiting {
     count: AtomicUsize,
 }
 
 impl Waiting {
-    /// Before anything is told.
+    /// Before anything is reported.
     fn new() -> Waiting {
         Waiting {
             count: AtomicUsize::new(1),
         }
     }
 
-    /// How many wait, as it was told last.
+    /// How many wait, as was reported last.
     fn seen(&self) -> usize {
         self.count.load(Ordering::Relaxed)
     }

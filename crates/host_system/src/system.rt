@@ -193,15 +193,15 @@ where
 
     type Observer = ProgressLine<'a, R>;
 
-    ghost makes = { λ network settings fetcher. (fetcher.inner.links ≡ settings.links) × (fetcher.inner.keeps ≡ is_some settings.kept) × (fetcher.inner.most ≡ settings.kept) × (fetcher.inner.sends ≡ Some (record settings.sends { jar = network.jar })) × (fetcher.inner.retries ≡ settings.retries) × (fetcher.inner.limits ≡ limits_of settings.manner.body_limit) × (fetcher.inner.takes_times ≡ settings.takes_times) };
+    ghost makes = { λ system settings fetcher. (fetcher.inner.links ≡ settings.links) × (fetcher.inner.keeps ≡ is_some settings.kept) × (fetcher.inner.most ≡ settings.kept) × (fetcher.inner.sends ≡ Some (record settings.sends { jar = system.jar })) × (fetcher.inner.retries ≡ settings.retries) × (fetcher.inner.limits ≡ limits_of settings.manner.body_limit) × (fetcher.inner.takes_times ≡ settings.takes_times) };
 
-    ghost makes_recorder = { λ network settings fetcher. (fetcher.inner.inner.links ≡ settings.links) × (fetcher.inner.inner.keeps ≡ is_some settings.kept) × (fetcher.inner.inner.most ≡ settings.kept) × (fetcher.inner.inner.sends ≡ Some (record settings.sends { jar = network.jar })) × (fetcher.inner.inner.retries ≡ settings.retries) × (fetcher.inner.inner.limits ≡ limits_of settings.manner.body_limit) × (fetcher.inner.is_recording ≡ settings.is_recording) };
+    ghost makes_recorder = { λ system settings fetcher. (fetcher.inner.inner.links ≡ settings.links) × (fetcher.inner.inner.keeps ≡ is_some settings.kept) × (fetcher.inner.inner.most ≡ settings.kept) × (fetcher.inner.inner.sends ≡ Some (record settings.sends { jar = system.jar })) × (fetcher.inner.inner.retries ≡ settings.retries) × (fetcher.inner.inner.limits ≡ limits_of settings.manner.body_limit) × (fetcher.inner.is_recording ≡ settings.is_recording) };
 
-    ghost opens = { λ network path originals folder. (folder.inner ≡ opened_at path) × (folder.originals ≡ originals) };
+    ghost opens = { λ system path originals folder. (folder.inner ≡ opened_at path) × (folder.originals ≡ originals) };
 
-    ghost holds = { λ network path bytes. ⊤ };
+    ghost holds = { λ system path bytes. ⊤ };
 
-    ghost names = { λ network path saved. ⊤ };
+    ghost names = { λ system path saved. ⊤ };
 
     fn begin_naming(&self, rules: EarlyRules) -> Result<(), AllocError> {
         self.early.begin(self.rt, rules)
