@@ -74,15 +74,19 @@ module _ (xs ys : List Text) (moved : IsPermutation ys xs) where
   pub displaced_moved : (alone : List Text) → filter (is_displaced xs) alone ≡ filter (is_displaced ys) alone
   displaced_moved alone = filter_agree (is_displaced xs) (is_displaced ys) (λ name. sym (list_any-IsPermutation (λ other. is_directory_of other name) ys xs moved)) alone
 
--- the names so far and those of the rest are all, after one more name that goes
+-- a name that goes or not, before others
+one_before : (b : Bool) (name : Text) (others : List Text) → cond b (name ∷ []) [] ++ others ≡ cond b (name ∷ others) others
+one_before true name others = refl
+one_before false name others = refl
+
+-- the names so far and those of the rest are all, after one more name
 pub one_more_name : (goes : Text → Bool) (name : Text) (later rest old new all : List Text)
-    → rest ≡ name ∷ later → goes name ≡ true → new ≡ old ++ (name ∷ [])
+    → rest ≡ name ∷ later → new ≡ old ++ cond (goes name) (name ∷ []) []
     → old ++ filter goes rest ≡ all → new ++ filter goes later ≡ all
-one_more_name goes name later rest old new all begins this added before =
-    let with_this : filter goes (name ∷ later) ≡ name ∷ filter goes later = ap (λ (b : Bool). cond b (name ∷ filter goes later) (filter goes later)) this in
+one_more_name goes name later rest old new all begins added before =
     ap (λ (ns : List Text). ns ++ filter goes later) added
-    ∙ append_assoc old (name ∷ []) (filter goes later)
-    ∙ ap (λ (ns : List Text). old ++ ns) (sym with_this)
+    ∙ append_assoc old (cond (goes name) (name ∷ []) []) (filter goes later)
+    ∙ ap (λ (ns : List Text). old ++ ns) (one_before (goes name) name (filter goes later))
     ∙ ap (λ (ns : List Text). old ++ filter goes ns) (sym begins)
     ∙ before
 

@@ -34,6 +34,10 @@ is_to_go names kept e = is_gone names e && (has_name kept e.address || is_in_way
 abbrev pub is_displaced : List Text → Text → Bool
 is_displaced names name = list_any (λ other. is_directory_of other name) names
 
+-- the name, if it is so
+abbrev pub displaced_name : List Text → Text → List Text
+displaced_name names name = if is_displaced names name then name ∷ [] else []
+
 -- the copies of bodies as they came of the pages of these entries
 abbrev pub originals : Bool → List Text → List Entry → List Text
 originals backs_up names [] = []

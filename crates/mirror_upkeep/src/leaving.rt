@@ -3,7 +3,7 @@ ghost use Rattle.std.specs.Prelude.{◌≡◌, ◌++◌, IfOk, OnOk, map, string
 ghost use Rattle.std.specs.List.{filter};
 ghost use Rattle.std.specs.List.Sorted.{IsSorted};
 ghost use Rattle.address.specs.AddressOrder.{IsAscending};
-ghost use Rattle.mirror_upkeep.specs.Leaving.{files, files_of, is_displaced, is_gone, is_renewed, is_to_go, originals, originals_of, other_name};
+ghost use Rattle.mirror_upkeep.specs.Leaving.{displaced_name, files, files_of, is_displaced, is_gone, is_renewed, is_to_go, originals, originals_of, other_name};
 ghost use Rattle.mirror_upkeep.specs.Names.{has_name, is_in_way};
 ghost use Rattle.mirror_upkeep.specs.inner.Lent.{lent_text, text_cmp};
 
@@ -181,6 +181,23 @@ pub fn in_way(
     in_way_of(alloc, earlier, sorted.as_slice(), kept, backs_up)
 }
 
+// Adds a name, if it is a directory of some of these others, which are in order.
+fn push_displaced(
+    alloc: Global,
+    leaving: &mut Vec<String>,
+    names: &[&[u8]],
+    name: &str,
+) -> Result<(), AllocError>
+    requires { IsSorted text_cmp names.now }
+    ensures { OnOk result (map string_bytes leaving.new.items ≡ map string_bytes leaving.old.items ++ displaced_name (map lent_text names.now) name.now) }
+{
+    let is_displaced = has_below(alloc, names, name)?;
+    if is_displaced {
+        leaving.push(String::from_str(alloc, name)?)?;
+    }
+    Ok(())
+}
+
 // Those of these names that are directories of others, which are in order.
 fn displaced_among(
     alloc: Global,
@@ -193,9 +210,7 @@ fn displaced_among(
     let mut leaving = Vec::new(alloc);
     let mut rest = alone;
     'names: while let Some((name, later)) = rest.split_first() {
-        if has_below(alloc, names, name.as_str())? {
-            leaving.push(String::from_str(alloc, name.as_str())?)?;
-        }
+        push_displaced(alloc, &mut leaving, names, name.as_str())?;
         rest = later;
     }
     Ok(leaving)
@@ -251,5 +266,11 @@ pub fn outdated(
 {
     let sorted = in_order(alloc, names)?;
     let renewed = in_order(alloc, renewed)?;
-    outdated_among(alloc, earlier, sorted.as_slice(), renewed.as_slice(), backs_up)
+    outdated_among(
+        alloc,
+        earlier,
+        sorted.as_slice(),
+        renewed.as_slice(),
+        backs_up,
+    )
 }
