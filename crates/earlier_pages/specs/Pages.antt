@@ -1,5 +1,5 @@
 -- Pages of an earlier run, and the responses that were received, as far as they count for their answers.
-use Rattle.std.specs.Prelude.{[], ◌++◌, Option, Some, None, codes}
+use Rattle.std.specs.Prelude.{[], ◌++◌, Option, Some, None, bytes_eq, codes, if◌then◌else◌}
 use Rattle.std.specs.Fmt.{decimal}
 use Rattle.requests.specs.Conditions.{Condition, condition_of}
 use Rattle.mirror_index.specs.Entries.{Entry, Text}
@@ -14,9 +14,14 @@ pub record Recorded (F : Type 0) : Type 0 where
   pub rest : Text
   pub body : F
 
+-- a tag by which one sees whether a page changed; in a condition `*` means any page (RFC 9110, section 13.1.2)
+abbrev pub telling_tag : Option Text → Option Text
+telling_tag None = None
+telling_tag (Some tag) = if bytes_eq tag (codes "*") then None else Some tag
+
 -- the condition with which a page is requested that has this entry, if its server said by what one sees whether it changed
 abbrev pub condition_by : Entry → Option Condition
-condition_by e = condition_of e.address e.head.etag e.head.last_modified
+condition_by e = condition_of e.address (telling_tag e.head.etag) e.head.last_modified
 
 -- a field of a head, if it has a value (RFC 9112, section 5)
 abbrev pub field_line : Text → Option Text → Text

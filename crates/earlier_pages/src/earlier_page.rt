@@ -2,7 +2,7 @@
 ghost use Rattle.std.specs.Prelude.{◌≡◌, ◌++◌, IfOk, IfSome, OnOk, Some, option_map};
 ghost use Rattle.std.specs.Fmt.{decimal};
 ghost use Rattle.std.specs.Io.KnownBytes.{prepend_known};
-ghost use Rattle.earlier_pages.specs.Pages.{condition_by, field_line, front_lines, recorded_head};
+ghost use Rattle.earlier_pages.specs.Pages.{condition_by, field_line, front_lines, recorded_head, telling_tag};
 
 use crate::recorded_stream::RecordedStream;
 use mirror_index::Entry;
@@ -77,6 +77,16 @@ fn push_field(head: &mut Vec<u8>, name: &[u8], value: Option<&[u8]>) -> Result<(
     head.extend_from_slice(b"\r\n")
 }
 
+// A tag that says whether a page changed; the word that means any says nothing of it.
+fn telling_tag(tag: Option<&[u8]>) -> Option<&[u8]>
+    ensures { option_map (λ v. v.now) result.entry ≡ telling_tag (option_map (λ v. v.now) tag.entry) }
+{
+    match tag {
+        Some(tag) if tag != b"*" => Some(tag),
+        _ => None,
+    }
+}
+
 // The head of the response that was received, as far as it counts for its answer.
 fn head_of(alloc: Global, entry: &Entry) -> Result<Vec<u8>, AllocError>
     ensures { IfOk result (λ head. head.items ≡ recorded_head entry.now) }
@@ -146,7 +156,8 @@ impl<'a, F: Read + Drop> EarlierPage<'a, F> {
         &self.file.opened
     }
 
-    /// The condition with which it is requested, if its server said by what one sees whether it changed.
+    /// The condition with which it is requested, if its server said by what one sees whether it changed. The tag `*` says nothing of the
+    /// kind: in a condition it means any page (RFC 9110, section 13.1.2).
     pub fn condition(&self) -> Result<Option<Condition>, AllocError>
         ensures { IfOk result (λ condition. condition ≡ condition_by self.now.entry) }
     {
@@ -154,7 +165,7 @@ impl<'a, F: Read + Drop> EarlierPage<'a, F> {
         Condition::of(
             self.alloc,
             self.entry.address(),
-            recorded.etag(),
+            telling_tag(recorded.etag()),
             recorded.last_modified(),
         )
     }

@@ -228,23 +228,27 @@ where
         Ok(())
     }
 
-    // Has files that were there before give way to these names of pages. What stays is in the way of a file.
+    // Has files that were there before give way to these names of pages, unless a body was lost, so that its page's earlier file stays. What
+    // stays is in the way of a file.
     fn make_way(&self, names: &[String], pages: &[Address], parts: &[KeptPart])
         requires order { IsAscending pages.now }
         requires count { length names.now ≡ length parts.now }
         requires pages { length pages.now ≡ length parts.now }
     {
+        if parts.iter().any(|part| part.standing == Standing::Lost) {
+            return;
+        }
         let _ = self.index.make_way(self.rt, self.failures, names, pages, parts);
         if !are_all_named(parts) {
             let _ = self.displace(names, pages, parts);
         }
     }
 
-    // Notes for the index that all these pages were put.
-    fn note_put(&self, names: &[String], pages: &[Address])
+    // Notes for the index that these pages were put: all of them, or some couldn't be put.
+    fn note_put(&self, names: &[String], pages: &[Address], is_all: bool)
         requires { IsAscending pages.now }
     {
-        let _ = self.index.note_put(self.rt, names, pages);
+        let _ = self.index.note_put(self.rt, names, pages, is_all);
     }
 
     // Keeps why the file of this name couldn't be put, whose bytes were to be this part: it was lost, or it got no name.
@@ -349,9 +353,7 @@ where
         self.take_back(names, pages, bodies);
         self.make_way(names, pages, bodies);
         let put = put_parts(self, names, bodies);
-        if put.is_ok() {
-            self.note_put(names, pages);
-        }
+        self.note_put(names, pages, put.is_ok());
         put
     }
 
@@ -389,9 +391,7 @@ where
         self.inner.keep_originals(self.originals, names);
         let put = put_changed_parts(alloc, self, names, bodies, change, crew);
         self.inner.end_puts();
-        if put.is_ok() {
-            self.note_put(names, pages);
-        }
+        self.note_put(names, pages, put.is_ok());
         put
     }
 }

@@ -122,6 +122,8 @@ struct Put {
     pages: MirrorIndex,
     // The names of the files of gone pages; none if no file is to be removed.
     gone: Vec<String>,
+    // Whether all of them have their files.
+    is_all: bool,
     // Whether what it didn't put is gone. Not before that is known.
     is_sure: bool,
 }
@@ -335,10 +337,10 @@ impl<F: Drop> IndexRun<F> {
             )?;
         }
         let journal = SharedJournal::of(path, first, left, takes_nothing(order.upkeep));
-        let journal = if order.upkeep.continues {
-            journal.going_on(self.alloc, &pages)?
-        } else {
+        let journal = if takes_nothing(order.upkeep) {
             journal
+        } else {
+            journal.going_on(self.alloc, &pages)?
         };
         set_journal(&mut self.journal.lock(rt), journal);
         Ok(pages)
@@ -489,12 +491,14 @@ impl<F: Drop> IndexRun<F> {
         Ok(())
     }
 
-    /// All these pages, whose addresses are in order, were put under these names. If there is no memory to know, no index is written.
+    /// These pages, whose addresses are in order, were put under these names: all of them, or some couldn't be put. If there is no memory to
+    /// know, no index is written.
     pub(crate) fn note_put<R: Wait>(
         &self,
         rt: &R,
         names: &[String],
         pages: &[Address],
+        is_all: bool,
     ) -> Result<(), AllocError>
         requires { IsAscending pages.now }
     {
@@ -505,6 +509,7 @@ impl<F: Drop> IndexRun<F> {
         let put = Put {
             pages: named_pages(self.alloc, noted.as_slice(), pages, names)?,
             gone: gone_of(self.alloc, &begun, names)?,
+            is_all,
             is_sure: false,
         };
         set(&mut self.put.lock(rt), put);
@@ -536,7 +541,7 @@ impl<F: Drop> IndexRun<F> {
         R::File: Close,
     {
         let folder = begun.folder.as_str();
-        let removes = begun.upkeep.deletes_gone && is_whole;
+        let removes = begun.upkeep.deletes_gone && is_whole && put.is_all;
         if removes && !put.is_sure {
             failures.say(rt, "files of gone pages stay: not all was answered\n");
         }
@@ -556,8 +561,9 @@ impl<F: Drop> IndexRun<F> {
         put_index(rt, self.alloc, own, path.as_str(), &index)
     }
 
-    /// The run has ended, and with all that was to be retrieved if that is said. If all its files were put the index is written, if one is
-    /// kept; `own` is the run's own directory. After all was retrieved the journal is removed. Failures are kept for a person.
+    /// The run has ended, and with all that was to be retrieved if that is said. If its files were put the index is written, if one is kept,
+    /// also of those that couldn't be: their entries are no file's, so the next run requests them. `own` is the run's own directory. After all
+    /// was retrieved the journal is removed, unless a file is missing that no index has. Failures are kept for a person.
     pub(crate) fn end<R: Wait + Files<File = F>>(
         &self,
         rt: &R,
@@ -580,7 +586,7 @@ impl<F: Drop> IndexRun<F> {
                 failures.fail(rt, INDEX, &error);
             }
         }
-        if is_whole {
+        if is_whole && (put.is_all || begun.keeps_index()) {
             self.journal.lock(rt).remove(rt);
         }
     }
