@@ -82,7 +82,7 @@ fn telling_tag(tag: Option<&[u8]>) -> Option<&[u8]>
     ensures { option_map (λ v. v.now) result.entry ≡ telling_tag (option_map (λ v. v.now) tag.entry) }
 {
     match tag {
-        Some(tag) if tag != b"*" => Some(tag),
+        Some(tag) if tag != b"*".as_slice() => Some(tag),
         _ => None,
     }
 }
