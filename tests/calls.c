@@ -5,9 +5,8 @@
 // file's name, the host or the address.
 //
 // CALLS_PLAN has plans with a comma between two, each `CALL NAME WHAT`, for the calls fsync, fdatasync, close, flock, fstat (a statx of
-// an open file), futimens, link, rename, recv, send, read, write, connect and getaddrinfo. NAME is the last part of the name of the file (of link
-// and rename that which it had),
-// or the host; * is any. WHAT is
+// an open file), futimens, link, unlink, rename, recv, send, read, write, connect and getaddrinfo. NAME is the last part of the name of
+// the file (of link and rename that which it had), or the host; * is any. WHAT is
 //   E..            the call fails with this error: EIO, or ENOSPC; a close closes all the same
 //   EINTR          the first such call is interrupted
 //   gone           before the first such call the file is removed, and its directory with it
@@ -175,6 +174,11 @@ int futimens(int file, const struct timespec times[2])
 int link(const char *from, const char *to)
 {
     return is_failed("link", from) ? -1 : NEXT(link)(from, to);
+}
+
+int unlink(const char *path)
+{
+    return is_failed("unlink", path) ? -1 : NEXT(unlink)(path);
 }
 
 int rename(const char *from, const char *to)

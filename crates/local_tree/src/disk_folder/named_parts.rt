@@ -1,7 +1,7 @@
 //! Bodies that a keeper has put on the disk, and that a folder gives their names.
 use super::DiskFolder;
 use super::change_lanes::FileToChange;
-use super::places::find_place;
+use super::places::{find_path, find_place, move_file};
 use crate::body_change::BodyChange;
 use crate::folder::FolderFault;
 use crate::shelf::{HasKind, Shelf};
@@ -51,6 +51,25 @@ where
         self.rt.rename(from.as_str(), path.as_str())
     }
 
+    // The same while others give names, too. A part that is a further name of an earlier file is renamed: nothing is done if that file has
+    // the name already.
+    fn move_early(&mut self, dir: &str, name: &str, part: &KeptPart) -> io::Result<()>
+        ensures { self.new ≡ self.old }
+    {
+        if !part.is_received {
+            return self.move_part(dir, name, part);
+        }
+        let path = find_path(
+            self.rt,
+            self.alloc,
+            self.prefix.as_str(),
+            &mut self.known,
+            name,
+        )?;
+        let from = part_path(self.alloc, dir, part.worker, part.number)?;
+        move_file(self.rt, from.as_str(), path.as_str())
+    }
+
     // Gives the file of a part this name.
     fn name_part(&mut self, name: &str, part: &KeptPart) -> io::Result<()>
         ensures { self.new ≡ self.old }
@@ -66,7 +85,7 @@ where
         if part.standing != Standing::Whole {
             return false;
         }
-        let is_named = self.move_part(dir, name, part).is_ok();
+        let is_named = self.move_early(dir, name, part).is_ok();
         if !is_named {
             self.known.forget();
         }

@@ -137,8 +137,36 @@ where
     rt.rename(part, path)
 }
 
-/// Makes the directories of a file below a folder, and refuses what is in its place, which can be nothing in a directory that was
-/// made here. Returns its path.
+// Makes the directories of a file below a folder. Whether the last was made here.
+fn make_dirs_of<R: Files>(
+    rt: &R,
+    alloc: Global,
+    folder: &str,
+    known: &mut Known,
+    name: &str,
+) -> io::Result<bool> {
+    if !is_local_name(name) {
+        return Err(Error::from(ErrorKind::InvalidInput));
+    }
+    match name.rsplit_once('/') {
+        Some((dirs, _)) => make_dirs(rt, alloc, folder, known, dirs),
+        None => Ok(false),
+    }
+}
+
+/// Makes the directories of a file below a folder, and doesn't look at its place. Returns its path.
+pub(crate) fn find_path<R: Files>(
+    rt: &R,
+    alloc: Global,
+    folder: &str,
+    known: &mut Known,
+    name: &str,
+) -> io::Result<String> {
+    make_dirs_of(rt, alloc, folder, known, name)?;
+    Ok(path_below(alloc, folder, name)?)
+}
+
+/// The same, and refuses what is in its place, which can be nothing in a directory that was made here.
 pub(crate) fn find_place<R: Files>(
     rt: &R,
     alloc: Global,
@@ -146,16 +174,31 @@ pub(crate) fn find_place<R: Files>(
     known: &mut Known,
     name: &str,
 ) -> io::Result<String> {
-    if !is_local_name(name) {
-        return Err(Error::from(ErrorKind::InvalidInput));
-    }
-    let is_new = match name.rsplit_once('/') {
-        Some((dirs, _)) => make_dirs(rt, alloc, folder, known, dirs)?,
-        None => false,
-    };
+    let is_new = make_dirs_of(rt, alloc, folder, known, name)?;
     let path = path_below(alloc, folder, name)?;
     if !is_new {
         look_for_file(rt, path.as_str())?;
     }
     Ok(path)
+}
+
+// Gives a whole file a further name where nothing is, and takes away the one that it had.
+fn link_over<R: Files>(rt: &R, from: &str, to: &str) -> io::Result<()> {
+    rt.hard_link(from, to)?;
+    let removed = rt.remove_file(from);
+    if removed.is_err() {
+        // Only one of its names may stay.
+        let _ = rt.remove_file(to);
+    }
+    removed
+}
+
+/// Moves a whole file to a path, and refuses what is there, unless it is a file. If nothing is, it is moved by a link: a disk has renames
+/// from one directory to another wait for each other, and not links.
+pub(crate) fn move_file<R: Files>(rt: &R, from: &str, to: &str) -> io::Result<()> {
+    if link_over(rt, from, to).is_ok() {
+        return Ok(());
+    }
+    look_for_file(rt, to)?;
+    rt.rename(from, to)
 }
