@@ -1,5 +1,5 @@
 //! Names that were claimed.
-ghost use Rattle.std.specs.Prelude.{◌≡◌, ◌↔◌, ◌||◌, ◌&&◌, ℕ, Bool, List, false, true, Some, MatchOption, OnOk, OnErr, IfOk, IsTrue, bytes_eq, cond};
+ghost use Rattle.std.specs.Prelude.{◌≡◌, ◌↔◌, ◌||◌, ◌&&◌, ℕ, Bool, List, false, true, Ok, Some, MatchOption, OnOk, OnErr, IfOk, IsTrue, bytes_eq, cond};
 ghost use Rattle.local_names.specs.Names.{IsDirectoryOf};
 ghost use Rattle.early_names.specs.Claims.{IsClear, is_claimed, is_name, no_claims};
 ghost use Rattle.early_names.specs.inner.Entries.{entry_of, HasClaimedAbove, IsLongestDirectory, IsUnmarked, IsAdded, MarksAll, MarksSome};
@@ -138,6 +138,9 @@ impl Claims {
         ensures claimed { IfOk result (λ is_new. (other : List ℕ) → is_claimed self.new other ≡ (is_claimed self.old other || (is_new && bytes_eq name.now other))) }
         ensures open { OnOk result (self.new.is_closed ≡ self.old.is_closed) }
         ensures err { OnErr result ((other : List ℕ) → is_claimed self.new other ≡ is_claimed self.old other) }
+        // Once memory ran out nothing more is claimed.
+        ensures closed { OnErr result (self.new.is_closed ≡ true) }
+        ensures shut { self.old.is_closed ≡ true → result ≡ Ok false }
     {
         if self.is_closed || !is_clear(&self.entries, name) {
             return Ok(false);
