@@ -1,11 +1,10 @@
 -- Fields are read back, and so is an index of entries that have them.
-use Rattle.std.proofs.Common.{◌≡◌, ◌≢◌, ◌≤◌, inl, inr, ℕ, zero, suc, List, [], ◌∷◌, ◌++◌, length, take, map, refl, sym, ◌∙◌, ap, subst, arith, append_assoc}
+use Rattle.std.proofs.Common.{◌≡◌, ◌≢◌, ◌≤◌, ℕ, zero, suc, List, [], ◌∷◌, ◌++◌, length, take, map, refl, sym, ◌∙◌, ap, subst, arith, append_assoc}
 use Rattle.std.proofs.lemmas.List.{append-nil}
 use Rattle.std.proofs.lemmas.Bool.Decides.{nat_tests}
-use Rattle.disk_folder.specs.Disks.{IsTorn}
 use Rattle.entry_lines.specs.Escapes.{escaped, read_back, HasNoSpace}
-use Rattle.entry_lines.specs.Lines.{ArePlain, AreEntries, text, recovered}
-use Rattle.entry_lines.specs.Fields.{fields_text, fields_from, fields_of, index_text, ReadsBack, ReadsCut}
+use Rattle.entry_lines.specs.Lines.{ArePlain, AreEntries, recovered}
+use Rattle.entry_lines.specs.Fields.{fields_text, fields_from, fields_of, ReadsBack, ReadsCut}
 use Rattle.entry_lines.proofs.LineLaws.{are_plain-append, read_again, reads_front}
 use Rattle.entry_lines.proofs.EscapeLaws.{plain_escaped, no_space_escaped, read_escaped}
 

@@ -4,7 +4,7 @@ ghost use Rattle.entry_lines.specs.Escapes.{escaped};
 ghost use Rattle.entry_lines.specs.Fields.{fields_text, fields_of, ReadsBack, ReadsCut};
 ghost use Rattle.entry_lines.specs.Lines.{ArePlain};
 
-use crate::escapes::escape;
+use crate::escapes::push_escaped;
 use std::alloc::{AllocError, Global};
 
 /// Adds a field of any bytes to an entry. Fails only if memory runs out, and then the entry isn't to be used.
@@ -17,8 +17,7 @@ pub fn push_field(alloc: Global, entry: &mut Vec<u8>, field: &[u8]) -> Result<()
     // An index of such entries is read back as exactly what was added, in order, and what a crash leaves of it as a front.
     ensures index { OnOk result (ReadsBack × ReadsCut) }
 {
-    let text = escape(alloc, field)?;
-    entry.extend_from_slice(text.as_slice())?;
+    push_escaped(alloc, entry, field)?;
     entry.push(b' ')?;
     Ok(())
 }

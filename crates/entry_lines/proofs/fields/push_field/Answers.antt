@@ -1,7 +1,7 @@
 use Rattle.std.proofs.Common.{◌≡◌, ◌++◌, [], ◌∷◌, ℕ, List, sym, ◌∙◌, ap, subst, arith}
 use Rattle.std.proofs.lemmas.Grind.{common_steps}
 use Rattle.entry_lines.specs.Escapes.{escaped}
-use Rattle.entry_lines.specs.Fields.{fields_text, fields_of}
+use Rattle.entry_lines.specs.Fields.{fields_of}
 use Rattle.entry_lines.specs.Lines.{ArePlain}
 use Rattle.entry_lines.proofs.FieldLaws.{fields_push, read_fields, plain_fields, reads_back, reads_cut}
 use Rattle.entry_lines.proofs.fields.push_field.Goals as goal
