@@ -238,7 +238,9 @@ where
         if parts.iter().any(|part| part.standing == Standing::Lost) {
             return;
         }
-        let _ = self.index.make_way(self.rt, self.failures, names, pages, parts);
+        let _ = self
+            .index
+            .make_way(self.rt, self.failures, names, pages, parts);
         if !are_all_named(parts) {
             let _ = self.displace(names, pages, parts);
         }

@@ -227,7 +227,12 @@ fn gone_of(alloc: Global, begun: &Begun, names: &[String]) -> Result<Vec<String>
     let put = put_names(alloc, names, begun.has_originals)?;
     let earlier = begun.earlier.pages.index();
     let mut all = gone(alloc, earlier.entries(), put.as_slice(), begun.backs_up)?;
-    let before = gone(alloc, begun.before.entries(), put.as_slice(), begun.backs_up)?;
+    let before = gone(
+        alloc,
+        begun.before.entries(),
+        put.as_slice(),
+        begun.backs_up,
+    )?;
     for name in before.as_slice() {
         all.push(String::from_str(alloc, name.as_str())?)?;
     }
@@ -486,7 +491,13 @@ impl<F: Drop> IndexRun<F> {
             remove_all(rt, self.alloc, failures, folder, going.as_slice());
         }
         let renewed = renewed_names(self.alloc, names, parts)?;
-        let copies = outdated(self.alloc, earlier, names, renewed.as_slice(), begun.backs_up)?;
+        let copies = outdated(
+            self.alloc,
+            earlier,
+            names,
+            renewed.as_slice(),
+            begun.backs_up,
+        )?;
         remove_all(rt, self.alloc, failures, folder, copies.as_slice());
         Ok(())
     }
