@@ -9,6 +9,7 @@ use crate::removed_files::remove_all;
 use crate::shared_failures::SharedFailures;
 use address::Address;
 use earlier_pages::EarlierPages;
+use fetcher::{FaultClass, Outcome};
 use harvest::Harvest;
 use local_names::ORIGINAL;
 use mirror_index::{Entry, MirrorIndex};
@@ -91,6 +92,11 @@ impl Begun {
     pub(crate) fn keeps_index(&self) -> bool {
         keeps_index(self.upkeep)
     }
+
+    /// Whether pages are noted until the end, for an index or for a journal that is gone on with.
+    pub(crate) fn notes_pages(&self) -> bool {
+        !takes_nothing(self.upkeep)
+    }
 }
 
 // Whether an index is kept.
@@ -124,6 +130,8 @@ struct Put {
     gone: Vec<String>,
     // Whether all of them have their files.
     is_all: bool,
+    // Whether a connection to some page was lost or not made. Not before that is known.
+    is_cut_off: bool,
     // Whether what it didn't put is gone. Not before that is known.
     is_sure: bool,
 }
@@ -190,11 +198,24 @@ fn take_put(put: &mut Option<Put>) -> Option<Put> {
     mem::replace(put, None)
 }
 
-// It is known of what was put, if that is noted, whether all else is gone.
-fn set_sure(put: &mut Option<Put>, is_sure: bool) {
+// It is known of what was put, if that is noted, whether all else is gone, and whether a connection failed.
+fn set_known(put: &mut Option<Put>, is_sure: bool, is_cut_off: bool) {
     if let Some(put) = put {
         put.is_sure = is_sure;
+        put.is_cut_off = is_cut_off;
     }
+}
+
+// Whether the connection to one of these addresses was lost or not made.
+fn is_cut_off(records: &[(Address, Outcome)]) -> bool {
+    for (_, outcome) in records {
+        if let Outcome::Fault(kind) = outcome {
+            if kind.class() == FaultClass::Network {
+                return true;
+            }
+        }
+    }
+    false
 }
 
 // This is the journal from now on.
@@ -341,7 +362,8 @@ impl<F: Drop> IndexRun<F> {
                 "-c goes on with it",
             )?;
         }
-        let journal = SharedJournal::of(path, first, left, takes_nothing(order.upkeep));
+        let removes_left = takes_nothing(order.upkeep);
+        let journal = SharedJournal::of(self.alloc, path, first, left, removes_left)?;
         let journal = if takes_nothing(order.upkeep) {
             journal
         } else {
@@ -521,21 +543,21 @@ impl<F: Drop> IndexRun<F> {
             pages: named_pages(self.alloc, noted.as_slice(), pages, names)?,
             gone: gone_of(self.alloc, &begun, names)?,
             is_all,
+            is_cut_off: false,
             is_sure: false,
         };
         set(&mut self.put.lock(rt), put);
         Ok(())
     }
 
-    /// This is what was retrieved, which says whether what isn't in it is gone.
+    /// This is what was retrieved, which says whether what isn't in it is gone, and whether a connection failed.
     pub(crate) fn note_harvest<R: Wait, B: Drop>(&self, rt: &R, harvest: &Harvest<B>) {
         let Some(begun) = shared(&mut self.begun.lock(rt)) else {
             return;
         };
-        if begun.upkeep.deletes_gone {
-            let is_sure = is_sure(harvest, begun.earlier.pages.index());
-            set_sure(&mut self.put.lock(rt), is_sure);
-        }
+        let is_sure = begun.upkeep.deletes_gone && is_sure(harvest, begun.earlier.pages.index());
+        let is_cut_off = is_cut_off(harvest.records());
+        set_known(&mut self.put.lock(rt), is_sure, is_cut_off);
     }
 
     // Writes the index of what was put, after the files of gone pages were removed, if that is to be done. An index that says so already stays.
@@ -572,9 +594,26 @@ impl<F: Drop> IndexRun<F> {
         put_index(rt, self.alloc, own, path.as_str(), &index)
     }
 
+    // Has the journal say which pages there are under the names that they have in the end: others may have those that they had early.
+    fn leave_journal<R: Wait + Files<File = F>>(
+        &self,
+        rt: &R,
+        own: &str,
+        begun: &Begun,
+        put: &Put,
+    ) -> io::Result<()>
+    where
+        F: Write + Lock,
+    {
+        let pages = joined(self.alloc, begun.earlier.pages.index(), &put.pages)?;
+        self.journal
+            .lock(rt)
+            .write_anew(rt, self.alloc, own, &pages)
+    }
+
     /// The run has ended, and with all that was to be retrieved if that is said. If its files were put the index is written, if one is kept,
     /// also of those that couldn't be: their entries are no file's, so the next run requests them. `own` is the run's own directory. After all
-    /// was retrieved the journal is removed, unless a file is missing that no index has. Failures are kept for a person.
+    /// was retrieved the journal is removed, unless a file or an answer is missing that no index has. Failures are kept for a person.
     pub(crate) fn end<R: Wait + Files<File = F>>(
         &self,
         rt: &R,
@@ -583,7 +622,7 @@ impl<F: Drop> IndexRun<F> {
         is_whole: bool,
     )
     where
-        F: Close,
+        F: Close + Write + Lock,
     {
         let Some(put) = take_put(&mut self.put.lock(rt)) else {
             return;
@@ -597,8 +636,13 @@ impl<F: Drop> IndexRun<F> {
                 failures.fail(rt, INDEX, &error);
             }
         }
-        if is_whole && (put.is_all || begun.keeps_index()) {
+        let is_done = begun.keeps_index() || (put.is_all && !put.is_cut_off);
+        if is_whole && is_done {
             self.journal.lock(rt).remove(rt);
+        } else if begun.notes_pages() {
+            if let Err(error) = self.leave_journal(rt, own, &begun, &put) {
+                failures.fail(rt, JOURNAL, &error);
+            }
         }
     }
 }

@@ -107,6 +107,8 @@ pub(crate) struct SharedJournal<F: Drop> {
     path: String,
     // Whether pages are added.
     is_open: bool,
+    // Its first line.
+    first: Vec<u8>,
     // What it begins with.
     front: Vec<u8>,
     // The one that was left at its place, which is held until it is replaced.
@@ -136,6 +138,7 @@ impl<F: Drop> SharedJournal<F> {
         SharedJournal {
             path: String::new(alloc),
             is_open: false,
+            first: Vec::new(alloc),
             front: Vec::new(alloc),
             left: None,
             removes_left: false,
@@ -146,19 +149,21 @@ impl<F: Drop> SharedJournal<F> {
     /// One at this path that begins with this line, in place of the one that was left there, which is held until then. If nothing was added
     /// when the run has ended well, the one that was left is removed if `removes_left`.
     pub(crate) fn of(
+        alloc: Global,
         path: String,
         first: Vec<u8>,
         left: Option<F>,
         removes_left: bool,
-    ) -> SharedJournal<F> {
-        SharedJournal {
+    ) -> Result<SharedJournal<F>, AllocError> {
+        Ok(SharedJournal {
             path,
             is_open: true,
-            front: first,
+            front: first.as_slice().to_vec(alloc)?,
+            first,
             left,
             removes_left,
             file: None,
-        }
+        })
     }
 
     /// The same, which begins with these pages of the one that was left, too, and is removed with it.
@@ -214,6 +219,34 @@ impl<F: Drop> SharedJournal<F> {
             file.write_all(line)?;
         }
         self.is_open = true;
+        Ok(())
+    }
+
+    /// Has it say just these pages: the run has ended, and is gone on with by these. If that fails it stays as it is.
+    pub(crate) fn write_anew<R: Files<File = F>>(
+        &mut self,
+        rt: &R,
+        alloc: Global,
+        own: &str,
+        pages: &MirrorIndex,
+    ) -> io::Result<()>
+    where
+        F: Write + Lock,
+    {
+        let path = self.path.as_str();
+        let is_own = match &self.file {
+            Some(file) => is_at(rt, file, path),
+            None => false,
+        };
+        if !is_own {
+            return Ok(());
+        }
+        let mut text = self.first.as_slice().to_vec(alloc)?;
+        for entry in pages.entries() {
+            push_entry(alloc, &mut text, entry)?;
+        }
+        let file = make(rt, alloc, own, path, text.as_slice())?;
+        self.file = Some(file);
         Ok(())
     }
 

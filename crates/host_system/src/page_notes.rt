@@ -130,7 +130,7 @@ impl<'a, F: Drop> PageNotes<'a, F> {
             push_entry(self.alloc, &mut self.line, &entry)?;
             self.index.add_line(rt, own, self.line.as_slice())?;
         }
-        if begun.keeps_index() {
+        if begun.notes_pages() {
             self.index.add_page(rt, entry)?;
         }
         Ok(())
