@@ -79,7 +79,7 @@ fn push_field(head: &mut Vec<u8>, name: &[u8], value: Option<&[u8]>) -> Result<(
 
 // A tag that says whether a page changed; the word that means any says nothing of it.
 fn telling_tag(tag: Option<&[u8]>) -> Option<&[u8]>
-    ensures { option_map (λ v. v.now) result.entry ≡ telling_tag (option_map (λ v. v.now) tag.entry) }
+    ensures { option_map (λ v. v.now) result ≡ telling_tag (option_map (λ v. v.now) tag.entry) }
 {
     match tag {
         Some(tag) if tag != b"*".as_slice() => Some(tag),
