@@ -10,7 +10,7 @@ use Rattle.options.specs.declared.fault.LineFault.{LineFault}
 use Rattle.options.specs.declared.fault.LineFault.TheVariants as fault
 use Rattle.options.specs.declared.order.Order.{Order}
 use Rattle.retriever.specs.OutputTargets.{GoesTo, IsRejectedPath, AreTargets, rejected_by, targets_by}
-use Rattle.retriever.specs.declared.telling.OutputTargets.{OutputTargets}
+use Rattle.retriever.specs.declared.output_targets.OutputTargets.{OutputTargets}
 
 -- as ordered
 pub targets_ordered : (words : List (List ℕ)) (order : Order) (r : Result OutputTargets AllocError) → order_of words ≡ Ok (ordered_by order)
