@@ -24,7 +24,7 @@ use Rattle.response_reader.specs.Limits.{Limited}
 use Rattle.retries.specs.Keeping.{MayKeep, StandsForAnswer, asks_of, is_worth_answer}
 use Rattle.retries.specs.Tries.{AreTries, IsLastOf}
 use Rattle.tcp_connect.specs.Connecting.{Connecting}
-use Rattle.tcp_fetcher.specs.Answering.{AreMarked, HasMark, IsAnswered, IsAnsweredBy, IsLeft, IsOfEarlier, IsReceived, IsReceivedIfChanged, IsReceivedUnder, IsReadAgain, IsRecorded, IsAnswerWith, Lasting, has_status, lasting, not_received, site_of, without_digest}
+use Rattle.tcp_fetcher.specs.Answering.{AreMarked, HasMark, IsAnswered, IsAnsweredBy, IsLeft, IsOfEarlier, IsReceived, IsReceivedIfChanged, IsReadAgain, IsRecorded, IsAnswerWith, Lasting, has_status, lasting, not_received, site_of, without_digest}
 use Rattle.tcp_fetcher.specs.TcpFetching.{TcpFetching, conditioned}
 use Rattle.tcp_fetcher.specs.PartsFetching.{MayAnswerIn}
 use Rattle.tcp_fetcher.specs.declared.earlier.Earlier.{Earlier}
@@ -111,43 +111,34 @@ may_recorded fetcher at entry answer (says, left, (real, kept, (may, marked))) =
 
 module _ (fetcher : Lasting) (at : AddressText) (old new : Fetching Connecting) (answer : Answer KeptPart) where
   -- what is received over the network is answered, whatever is known
-  pub answered_anew : (known : Option Earlier) → IsReceived fetcher at old new answer → IsAnsweredBy fetcher at known old new answer
+  pub answered_anew : (known : Option Earlier) → IsReceived fetcher at None old new answer → IsAnsweredBy fetcher at known old new answer
   answered_anew None received = received
   answered_anew (Some earlier) received = inl received
 
   -- and what is answered by what is known
   pub answered_by : (known : Option Earlier) (earlier : Earlier) → known ≡ Some earlier
-      → IsReceived fetcher at old new answer ⊎ IsOfEarlier fetcher at earlier old new answer → IsAnsweredBy fetcher at known old new answer
+      → IsReceived fetcher at None old new answer ⊎ IsOfEarlier fetcher at earlier old new answer → IsAnsweredBy fetcher at known old new answer
   answered_by known earlier is answered = subst (λ k. IsAnsweredBy fetcher at k old new answer) (sym is) answered
-
--- what is received with a condition, if that is set before and taken away after
-pub received_under : {E : Type 0} (known : Option Earlier) (inner set : TcpFetching) (condition : Condition) (at : AddressText) (r : Result (Answer KeptPart) E) (left : Fetching Connecting)
-    → set ≡ record inner { sends = with_condition (Some condition) inner.sends; single = conditioned (Some condition) inner.single }
-    → IfOk r (IsAnswerWith (lasting (record set { known = known })) at (IsReceived (lasting (record set { known = known })) at set.single left))
-    → IfOk r (IsAnswerWith (lasting (record inner { known = known })) at (IsReceivedUnder (lasting (record inner { known = known })) at condition inner.single (conditioned None left)))
-received_under known inner set condition at r left is received =
-    if_ok_map r _ _ (subst (λ (f : TcpFetching). IfOk r (IsAnswerWith (lasting (record f { known = known })) at (IsReceived (lasting (record f { known = known })) at f.single left))) is received)
-    (λ a told. (told.0, (left, told.1, refl)))
 
 -- what is answered by an entry is answered by what is known
 module _ (fetcher : Lasting) (at : AddressText) (old new : Fetching Connecting) (earlier : Earlier) (entry : Entry) where
   of_changed : (a : Answer KeptPart) → HasThis earlier.pages at entry → earlier.is_asked ≡ true
-      → IsReceived fetcher at old new a ⊎ IsReceivedIfChanged fetcher at entry old new a → IsReceived fetcher at old new a ⊎ IsOfEarlier fetcher at earlier old new a
+      → IsReceived fetcher at None old new a ⊎ IsReceivedIfChanged fetcher at entry old new a → IsReceived fetcher at None old new a ⊎ IsOfEarlier fetcher at earlier old new a
   of_changed a has asked (inl received) = inl received
   of_changed a has asked (inr changed) = inr (entry, has, inl (asked, changed))
 
   of_missing : (a : Answer KeptPart) → HasThis earlier.pages at entry → earlier.is_asked ≡ false
-      → IsReceived fetcher at old new a ⊎ IsLeft fetcher at entry old new a → IsReceived fetcher at old new a ⊎ IsOfEarlier fetcher at earlier old new a
+      → IsReceived fetcher at None old new a ⊎ IsLeft fetcher at entry old new a → IsReceived fetcher at None old new a ⊎ IsOfEarlier fetcher at earlier old new a
   of_missing a has unasked (inl received) = inl received
   of_missing a has unasked (inr left) = inr (entry, has, inr (unasked, left))
 
   pub kept_changed : {E : Type 0} (r : Result (Answer KeptPart) E) → fetcher.known ≡ Some earlier → HasThis earlier.pages at entry → earlier.is_asked ≡ true
-      → IfOk r (IsAnswerWith fetcher at (λ a. IsReceived fetcher at old new a ⊎ IsReceivedIfChanged fetcher at entry old new a))
+      → IfOk r (IsAnswerWith fetcher at (λ a. IsReceived fetcher at None old new a ⊎ IsReceivedIfChanged fetcher at entry old new a))
       → IfOk r (IsAnswerWith fetcher at (IsAnswered fetcher at old new))
   kept_changed r is has asked answered = if_ok_map r _ _ answered (λ a told. (told.0, answered_by fetcher at old new a fetcher.known earlier is (of_changed a has asked told.1)))
 
   pub kept_missing : {E : Type 0} (r : Result (Answer KeptPart) E) → fetcher.known ≡ Some earlier → HasThis earlier.pages at entry → earlier.is_asked ≡ false
-      → IfOk r (IsAnswerWith fetcher at (λ a. IsReceived fetcher at old new a ⊎ IsLeft fetcher at entry old new a))
+      → IfOk r (IsAnswerWith fetcher at (λ a. IsReceived fetcher at None old new a ⊎ IsLeft fetcher at entry old new a))
       → IfOk r (IsAnswerWith fetcher at (IsAnswered fetcher at old new))
   kept_missing r is has unasked answered = if_ok_map r _ _ answered (λ a told. (told.0, answered_by fetcher at old new a fetcher.known earlier is (of_missing a has unasked told.1)))
 
@@ -162,8 +153,8 @@ answered_noted known inner noted asks at r new is answered =
 -- the same of a page that isn't kept
 pub passed_noted : {E : Type 0} (known : Option Earlier) (inner noted : TcpFetching) (asks : List Ask) (at : AddressText) (r : Result (Answer KeptPart) E) (new : Fetching Connecting)
     → noted ≡ record inner { asks = asks }
-    → IfOk r (IsReceived (lasting noted) at noted.single new)
+    → IfOk r (IsReceived (lasting noted) at None noted.single new)
     → IfOk r (IsAnswered (lasting (record inner { known = known })) at inner.single new)
 passed_noted known inner noted asks at r new is received =
-    if_ok_map r _ _ (subst (λ (f : TcpFetching). IfOk r (IsReceived (lasting f) at f.single new)) is received)
+    if_ok_map r _ _ (subst (λ (f : TcpFetching). IfOk r (IsReceived (lasting f) at None f.single new)) is received)
     (λ a got. answered_anew (lasting (record inner { known = known })) at inner.single new a known got)

@@ -98,16 +98,12 @@ module _ (fetcher : Lasting) (at : AddressText) where
       × (answer.body.is_received ≡ false)
       × StandsForOne holds_part answer (λ real. MayAnswerWithin fetcher.limits fetcher.links at real.outcome real.body × AreMarked entry.mark real.body.bytes)
 
-  -- from one of these to the other the network is asked once, or again if that is worth it, and what is received last is the answer, whose
-  -- body counts as received
-  abbrev pub IsReceived : Fetching Connecting → Fetching Connecting → Answer KeptPart → Type 0
-  IsReceived old new answer =
-      IsLastOf asks_of last_loss (MayKeep holds_received fetcher.limits at) (is_worth_answer fetcher.retries) (ask.Page at) fetcher.retries.most old new answer
-
-  -- the page is requested with this condition, and this is received last; there is no condition from then on
-  abbrev pub IsReceivedUnder : Condition → Fetching Connecting → Fetching Connecting → Answer KeptPart → Type 0
-  IsReceivedUnder condition old new answer =
-      (left : Fetching Connecting) × IsReceived (conditioned (Some condition) old) left answer × (new ≡ conditioned None left)
+  -- from one of these to the other the network is asked with this condition alone, if there is one: once, or again if that is worth it. What
+  -- is received last is the answer, whose body counts as received. What was sent last is what the other sends
+  abbrev pub IsReceived : Option Condition → Fetching Connecting → Fetching Connecting → Answer KeptPart → Type 0
+  IsReceived condition old new answer =
+      (new.sends ≡ with_condition condition old.sends)
+      × IsLastOf asks_of last_loss (MayKeep holds_received fetcher.limits at) (is_worth_answer fetcher.retries) (ask.Page at) fetcher.retries.most (conditioned condition old) new answer
 
   -- what was received for a request with a condition is the answer, unless the server said that the page is as it was: then that is what was
   -- recorded, or, if no file has its bytes any more, what is received without a condition
@@ -115,13 +111,13 @@ module _ (fetcher : Lasting) (at : AddressText) where
   IsConcluded entry received old new answer =
       ((is_unchanged received.outcome ≡ false) × (answer ≡ received) × (new ≡ old))
       ⊎ ((is_unchanged received.outcome ≡ true) × IsRecorded entry answer × (new ≡ old))
-      ⊎ ((is_unchanged received.outcome ≡ true) × IsReceived old new answer)
+      ⊎ ((is_unchanged received.outcome ≡ true) × IsReceived None old new answer)
 
   -- the page is requested with the condition of its own entry, and what is received last decides
   abbrev pub IsReceivedIfChanged : Entry → Fetching Connecting → Fetching Connecting → Answer KeptPart → Type 0
   IsReceivedIfChanged entry old new answer =
       (condition : Condition) × (condition_by entry ≡ Some condition)
-      × (asked : Fetching Connecting) × (received : Answer KeptPart) × IsReceivedUnder condition old asked received
+      × (asked : Fetching Connecting) × (received : Answer KeptPart) × IsReceived (Some condition) old asked received
       × IsConcluded entry received asked new answer
 
   -- the network isn't asked: what was recorded is the answer
@@ -134,10 +130,10 @@ module _ (fetcher : Lasting) (at : AddressText) where
       (entry : Entry) × HasThis earlier.pages at entry
       × (((earlier.is_asked ≡ true) × IsReceivedIfChanged entry old new answer) ⊎ ((earlier.is_asked ≡ false) × IsLeft entry old new answer))
 
-  -- what is answered, by what is known of an earlier run: if nothing is, what is received last
+  -- what is answered, by what is known of an earlier run: if nothing is, what is received last, without a condition
   abbrev pub IsAnsweredBy : Option Earlier → Fetching Connecting → Fetching Connecting → Answer KeptPart → Type 0
-  IsAnsweredBy None old new answer = IsReceived old new answer
-  IsAnsweredBy (Some earlier) old new answer = IsReceived old new answer ⊎ IsOfEarlier earlier old new answer
+  IsAnsweredBy None old new answer = IsReceived None old new answer
+  IsAnsweredBy (Some earlier) old new answer = IsReceived None old new answer ⊎ IsOfEarlier earlier old new answer
 
   abbrev pub IsAnswered : Fetching Connecting → Fetching Connecting → Answer KeptPart → Type 0
   IsAnswered old new answer = IsAnsweredBy fetcher.known old new answer

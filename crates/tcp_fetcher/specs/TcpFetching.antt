@@ -1,13 +1,20 @@
 -- What contracts see of a fetcher over TCP.
-use Rattle.std.specs.Prelude.{ℕ, Bool, List, Option}
+use Rattle.std.specs.Prelude.{◌≡◌, ℕ, Bool, List, Option}
+use Rattle.address.specs.Address.{OriginText}
+use Rattle.answer_notes.specs.HopChains.{ChainValue, rules_of_hops}
+use Rattle.robots_rules.specs.Access.{RuleSetValue}
 use Rattle.requests.specs.Requests.{Sending}
 use Rattle.fetcher.specs.declared.fetcher.Ask.{Ask}
+use Rattle.fetcher.specs.declared.fetcher.Ask.TheVariants as ask
 use Rattle.requests.specs.Conditions.{Condition}
 use Rattle.http_fetcher.specs.Fetching.{Fetching, with_condition}
+use Rattle.http_fetcher.specs.Meanings.{MayRule}
 use Rattle.tcp_fetcher.specs.declared.earlier.Earlier.{Earlier}
 use Rattle.tcp_connect.specs.Connecting.{Connecting}
 use Rattle.pacing.specs.Retries.{Retried}
-use Rattle.retries.specs.Keeping.{lost_of}
+use Rattle.retries.specs.Keeping.{asks_of, lost_of}
+use Rattle.retries.specs.Tries.{IsLastOf}
+use Rattle.retries.specs.Worth.{is_worth_hops}
 use Rattle.run_failures.specs.declared.loss_kind.LossKind.{LossKind}
 use Rattle.response_reader.specs.Limits.{Limited}
 use Rattle.html_links.specs.declared.rules.LinkRules.{LinkRules}
@@ -30,6 +37,13 @@ pub record TcpFetching : Type 0 where
 -- why one that asks once lost its last connection, if it did
 abbrev pub last_loss : Fetching Connecting → Option LossKind
 last_loss = lost_of (λ connections. connections.lost)
+
+-- from one of these to the other an origin's robots file is requested once, or again if that is worth it, and the rules are by what is
+-- received last
+abbrev pub AreReceivedRules : Retried → OriginText → Fetching Connecting → Fetching Connecting → RuleSetValue → Type 0
+AreReceivedRules retries of old new rules =
+    (found : ChainValue) × (rules ≡ rules_of_hops found.hops)
+    × IsLastOf asks_of last_loss (λ f found. MayRule f.links of (rules_of_hops found.hops)) (λ found. is_worth_hops retries found.hops) (ask.Rules of) retries.most old new found
 
 -- one that asks once, with this condition
 abbrev pub conditioned : {C : Type 0} → Option Condition → Fetching C → Fetching C

@@ -2,7 +2,7 @@
 ghost use Rattle.std.specs.Prelude.{◌≡◌, ◌<◌, ◌++◌, ◌∷◌, [], IfOk, None, OnErr, OnOk};
 ghost use Rattle.fetcher.specs.Logs.{GainedAtMost};
 ghost use Rattle.fetcher.specs.declared.fetcher.Ask.TheVariants as ask;
-ghost use Rattle.answer_notes.specs.HopChains.{ChainValue, rules_of_hops};
+ghost use Rattle.answer_notes.specs.HopChains.{rules_of_hops};
 ghost use Rattle.answer_notes.specs.Received.{received_outcome, received_body};
 ghost use Rattle.answer_notes.specs.declared.received.Received.{Received};
 ghost use Rattle.http_fetcher.specs.Fetching.{with_condition};
@@ -11,7 +11,7 @@ ghost use Rattle.response_reader.specs.Limits.{limited};
 ghost use Rattle.retries.specs.Keeping.{MayKeep, StandsForAnswer, asks_of, is_worth_answer};
 ghost use Rattle.retries.specs.Tries.{IsLastOf};
 ghost use Rattle.retries.specs.Worth.{is_worth, is_worth_hops};
-ghost use Rattle.tcp_fetcher.specs.TcpFetching.{conditioned, last_loss};
+ghost use Rattle.tcp_fetcher.specs.TcpFetching.{AreReceivedRules, conditioned, last_loss};
 
 use crate::observed_tcp::ObservedTcp;
 use address::{Address, Origin};
@@ -150,12 +150,11 @@ impl<'a, R: Net + Wait + Clock + Eprint> OverTcp<'a, R> {
         }
     }
 
-    // From here on the request for the page of this condition has it (RFC 9110, section 13.1), each try of it, and no other request has
-    // one.
-    pub(crate) fn set_condition(&mut self, condition: Option<Condition>)
-        ensures { self.new ≡ record self.old { sends = with_condition condition self.old.sends; single = conditioned condition self.old.single } }
+    // No request has a condition from here on.
+    fn forget_condition(&mut self)
+        ensures { self.new ≡ record self.old { sends = with_condition None self.old.sends; single = conditioned None self.old.single } }
     {
-        self.inner.set_condition(condition);
+        self.inner.set_condition(None);
     }
 
     // Whether the file of a page gets the time at which that changed.
@@ -199,6 +198,7 @@ impl<'a, R: Net + Wait + Clock + Eprint> OverTcp<'a, R> {
 
     // What is received last of an origin's robots file, whose delay holds from then on if that is honoured.
     fn spaced_hops(&mut self, of: &Origin) -> Result<Hops, AllocError>
+        requires { with_condition None self.old.sends ≡ self.old.sends }
         ensures site { self.new.links ≡ self.old.links }
         ensures of { IfOk result (λ found. found.of ≡ of.now) }
         ensures told { IfOk result (λ found. MayRule self.old.links of.now (rules_of_hops found.hops)) }
@@ -215,12 +215,12 @@ impl<'a, R: Net + Wait + Clock + Eprint> OverTcp<'a, R> {
 
     // The rules by what is received last of an origin's robots file, whose delay holds from then on.
     fn spaced_rules(&mut self, of: &Origin) -> Result<RuleSet, AllocError>
+        requires { with_condition None self.old.sends ≡ self.old.sends }
         ensures site { self.new.links ≡ self.old.links }
         ensures told { IfOk result (λ r. MayRule self.old.links of.now r) }
         ensures asks { self.new.asks ≡ self.old.asks }
         ensures once { self.old.retries.most ≡ 0 → OnOk result (self.new.single.asks ≡ self.old.single.asks ++ ask.Rules of.now ∷ []) }
-        ensures tries { IfOk result (λ r. (found : ChainValue) × (r ≡ rules_of_hops found.hops)
-            × IsLastOf (λ f. f.asks) last_loss (λ f found. MayRule f.links of.now (rules_of_hops found.hops)) (λ found. is_worth_hops self.old.retries found.hops) (ask.Rules of.now) self.old.retries.most self.old.single self.new.single found) }
+        ensures tries { IfOk result (AreReceivedRules self.old.retries of.now self.old.single self.new.single) }
         ensures retries { self.new.retries ≡ self.old.retries }
         ensures limits { self.new.limits ≡ self.old.limits }
     {
@@ -228,22 +228,43 @@ impl<'a, R: Net + Wait + Clock + Eprint> OverTcp<'a, R> {
         hops.rules(self.alloc)
     }
 
-    // Requests a page over the network that was noted, whose body goes to the sink's keeper while it arrives.
+    // The rules by what is received last of an origin's robots file.
+    fn rules_of(&mut self, of: &Origin) -> Result<RuleSet, AllocError>
+        requires { with_condition None self.old.sends ≡ self.old.sends }
+        ensures site { self.new.links ≡ self.old.links }
+        ensures told { IfOk result (λ r. MayRule self.old.links of.now r) }
+        ensures asks { self.new.asks ≡ self.old.asks }
+        ensures once { self.old.retries.most ≡ 0 → OnOk result (self.new.single.asks ≡ self.old.single.asks ++ ask.Rules of.now ∷ []) }
+        ensures tries { 0 < self.old.retries.most → IfOk result (AreReceivedRules self.old.retries of.now self.old.single self.new.single) }
+        ensures retries { self.new.retries ≡ self.old.retries }
+        ensures limits { self.new.limits ≡ self.old.limits }
+    {
+        if self.crawl_delay {
+            return self.spaced_rules(of);
+        }
+        retries::ask_robots(self.alloc, &mut self.inner, &self.retries, of)
+    }
+
+    // Requests a page over the network that was noted, each try with this condition alone (RFC 9110, section 13.1), if there is one. Its body
+    // goes to the sink's keeper while it arrives.
     pub(crate) fn ask_noted<K: Keeper>(
         &mut self,
         sink: &mut PageSink<K>,
         at: &Address,
+        condition: Option<Condition>,
     ) -> Result<Answer<K::Kept>, AllocError>
         ensures site { self.new.links ≡ self.old.links }
         ensures told { IfOk result (StandsForAnswer K.holds self.old.limits self.old.links at.now) }
         ensures asks { self.new.asks ≡ self.old.asks }
-        ensures tries { IfOk result (IsLastOf asks_of last_loss (MayKeep K.holds self.old.limits at.now) (is_worth_answer self.old.retries) (ask.Page at.now) self.old.retries.most self.old.single self.new.single) }
+        ensures tries { IfOk result (IsLastOf asks_of last_loss (MayKeep K.holds self.old.limits at.now) (is_worth_answer self.old.retries) (ask.Page at.now) self.old.retries.most (conditioned condition self.old.single) self.new.single) }
+        ensures sent { self.new.single.sends ≡ with_condition condition self.old.single.sends }
         ensures retries { self.new.retries ≡ self.old.retries }
         ensures limits { self.new.limits ≡ self.old.limits }
         ensures takes_times { self.new.takes_times ≡ self.old.takes_times }
-        ensures sends { self.new.sends ≡ self.old.sends }
+        ensures sends { self.new.sends ≡ with_condition condition self.old.sends }
         ensures known { self.new.known ≡ self.old.known }
     {
+        self.inner.set_condition(condition);
         retries::ask_into(&mut self.inner, sink, &self.retries, at, self.limits)
     }
 }
@@ -285,16 +306,14 @@ impl<'a, R: Net + Wait + Clock + Eprint> Fetcher for OverTcp<'a, R> {
         ensures asked { OnOk result (self.new.asks ≡ self.old.asks ++ ask.Rules of.now ∷ []) }
         ensures refused { OnErr result (GainedAtMost self.old.asks self.new.asks (ask.Rules of.now)) }
         ensures once { self.old.retries.most ≡ 0 → OnOk result (self.new.single.asks ≡ self.old.single.asks ++ ask.Rules of.now ∷ []) }
-        ensures tries { 0 < self.old.retries.most → IfOk result (λ r. (found : ChainValue) × (r ≡ rules_of_hops found.hops)
-            × IsLastOf (λ f. f.asks) last_loss (λ f found. MayRule f.links of.now (rules_of_hops found.hops)) (λ found. is_worth_hops self.old.retries found.hops) (ask.Rules of.now) self.old.retries.most self.old.single self.new.single found) }
+        // No condition of a page is sent for it.
+        ensures tries { 0 < self.old.retries.most → IfOk result (AreReceivedRules self.old.retries of.now (conditioned None self.old.single) self.new.single) }
         ensures retries { self.new.retries ≡ self.old.retries }
         ensures limits { self.new.limits ≡ self.old.limits }
     {
         self.asks.push(Ask::Rules(of.try_clone()?))?;
-        if self.crawl_delay {
-            return self.spaced_rules(of);
-        }
-        retries::ask_robots(self.alloc, &mut self.inner, &self.retries, of)
+        self.forget_condition();
+        self.rules_of(of)
     }
 
     fn asks(&self) -> &[Ask] {
@@ -332,11 +351,12 @@ impl<'a, R: Net + Wait + Clock + Eprint> Receiving for OverTcp<'a, R> {
         ensures asked { OnOk result (self.new.asks ≡ self.old.asks ++ ask.Rules of.now ∷ []) }
         ensures refused { OnErr result (GainedAtMost self.old.asks self.new.asks (ask.Rules of.now)) }
         ensures tries { IfOk result (λ found. IsLastOf (λ f. f.asks) last_loss (λ f found. MayRule f.links of.now (rules_of_hops found.hops))
-            (λ found. is_worth_hops self.old.retries found.hops) (ask.Rules of.now) self.old.retries.most self.old.single self.new.single found) }
+            (λ found. is_worth_hops self.old.retries found.hops) (ask.Rules of.now) self.old.retries.most (conditioned None self.old.single) self.new.single found) }
         ensures retries { self.new.retries ≡ self.old.retries }
         ensures limits { self.new.limits ≡ self.old.limits }
     {
         self.asks.push(Ask::Rules(of.try_clone()?))?;
+        self.forget_condition();
         self.spaced_hops(of)
     }
 }

@@ -1,13 +1,13 @@
 //! What asks over TCP for one worker, and has the bodies kept in files while they arrive.
-ghost use Rattle.std.specs.Prelude.{◌≡◌, ◌⊎◌, ◌++◌, ◌∷◌, [], None, Some, IfOk, IfSome, IsTrue, OnErr, OnOk, option_map, true};
+ghost use Rattle.std.specs.Prelude.{◌≡◌, ◌<◌, ◌⊎◌, ◌++◌, ◌∷◌, [], None, Some, IfOk, IfSome, IsTrue, OnErr, OnOk, option_map, true};
 ghost use Rattle.std.specs.Arc.{arc_value};
 ghost use Rattle.fetcher.specs.Logs.{GainedAtMost};
 ghost use Rattle.fetcher.specs.declared.fetcher.Ask.TheVariants as ask;
 ghost use Rattle.http_fetcher.specs.Fetching.{with_condition};
 ghost use Rattle.response_reader.specs.Limits.{limited};
-ghost use Rattle.tcp_fetcher.specs.Answering.{HasMark, IsAnswered, IsConcluded, IsLeft, IsReceived, IsReceivedIfChanged, IsReceivedUnder, IsReadAgain, IsRecorded, IsAnswerWith, has_status, is_unchanged, lasting, not_received, without_digest};
+ghost use Rattle.tcp_fetcher.specs.Answering.{HasMark, IsAnswered, IsConcluded, IsLeft, IsReceived, IsReceivedIfChanged, IsReadAgain, IsRecorded, IsAnswerWith, has_status, is_unchanged, lasting, not_received, without_digest};
 ghost use Rattle.tcp_fetcher.specs.PartsFetching.{MayAnswerIn, MayRuleIn, PartsSite, parts_site};
-ghost use Rattle.tcp_fetcher.specs.TcpFetching.{last_loss};
+ghost use Rattle.tcp_fetcher.specs.TcpFetching.{AreReceivedRules, conditioned, last_loss};
 
 use crate::earlier::{Earlier, IndexNote};
 use crate::over_tcp::OverTcp;
@@ -149,12 +149,16 @@ where
         }
     }
 
-    // Requests a page over the network that was noted.
-    fn ask_noted(&mut self, at: &Address) -> Result<Answer<KeptPart>, AllocError>
-        ensures received { IfOk result (IsAnswerWith (lasting self.old) at.now (IsReceived (lasting self.old) at.now self.old.single self.new.single)) }
+    // Requests a page over the network that was noted, with this condition alone, if there is one.
+    fn ask_noted(
+        &mut self,
+        at: &Address,
+        condition: Option<Condition>,
+    ) -> Result<Answer<KeptPart>, AllocError>
+        ensures received { IfOk result (IsAnswerWith (lasting self.old) at.now (IsReceived (lasting self.old) at.now condition self.old.single self.new.single)) }
         ensures lasting { lasting self.new ≡ lasting self.old }
     {
-        let answer = self.inner.ask_noted(&mut self.sink, at)?;
+        let answer = self.inner.ask_noted(&mut self.sink, at, condition)?;
         Ok(self.taken(answer))
     }
 
@@ -238,21 +242,6 @@ where
         }
     }
 
-    // Requests a page over the network, with this condition alone.
-    fn ask_under(
-        &mut self,
-        at: &Address,
-        condition: Condition,
-    ) -> Result<Answer<KeptPart>, AllocError>
-        ensures received { IfOk result (IsAnswerWith (lasting self.old) at.now (IsReceivedUnder (lasting self.old) at.now condition self.old.single self.new.single)) }
-        ensures lasting { lasting self.new ≡ lasting self.old }
-    {
-        self.inner.set_condition(Some(condition));
-        let answer = self.ask_noted(at);
-        self.inner.set_condition(None);
-        answer
-    }
-
     // What is answered after a request with a condition: if the server says that the page is as it was, it is read again, or requested
     // without a condition if no file has its bytes any more.
     fn concluded(
@@ -270,7 +259,7 @@ where
         }
         match self.replayed(at, page)? {
             Some(answer) => Ok(answer),
-            None => self.ask_noted(at),
+            None => self.ask_noted(at, None),
         }
     }
 
@@ -280,13 +269,13 @@ where
         at: &Address,
         page: EarlierPage<'_, R::File>,
     ) -> Result<Answer<KeptPart>, AllocError>
-        ensures answered { IfOk result (IsAnswerWith (lasting self.old) at.now (λ a. IsReceived (lasting self.old) at.now self.old.single self.new.single a ⊎ IsReceivedIfChanged (lasting self.old) at.now page.entry.entry self.old.single self.new.single a)) }
+        ensures answered { IfOk result (IsAnswerWith (lasting self.old) at.now (λ a. IsReceived (lasting self.old) at.now None self.old.single self.new.single a ⊎ IsReceivedIfChanged (lasting self.old) at.now page.entry.entry self.old.single self.new.single a)) }
         ensures lasting { lasting self.new ≡ lasting self.old }
     {
         let Some(condition) = page.condition()? else {
-            return self.ask_noted(at);
+            return self.ask_noted(at, None);
         };
-        let received = self.ask_under(at, condition)?;
+        let received = self.ask_noted(at, Some(condition))?;
         self.concluded(at, page, received)
     }
 
@@ -296,7 +285,7 @@ where
         at: &Address,
         page: EarlierPage<'_, R::File>,
     ) -> Result<Answer<KeptPart>, AllocError>
-        ensures answered { IfOk result (IsAnswerWith (lasting self.old) at.now (λ a. IsReceived (lasting self.old) at.now self.old.single self.new.single a ⊎ IsLeft (lasting self.old) at.now page.entry.entry self.old.single self.new.single a)) }
+        ensures answered { IfOk result (IsAnswerWith (lasting self.old) at.now (λ a. IsReceived (lasting self.old) at.now None self.old.single self.new.single a ⊎ IsLeft (lasting self.old) at.now page.entry.entry self.old.single self.new.single a)) }
         ensures lasting { lasting self.new ≡ lasting self.old }
     {
         match self.replayed(at, page)? {
@@ -304,7 +293,7 @@ where
                 self.is_requested = false;
                 Ok(answer)
             }
-            None => self.ask_noted(at),
+            None => self.ask_noted(at, None),
         }
     }
 
@@ -314,10 +303,10 @@ where
         ensures lasting { lasting self.new ≡ lasting self.old }
     {
         let Some(earlier) = shared(&self.earlier) else {
-            return self.ask_noted(at);
+            return self.ask_noted(at, None);
         };
         let Some(page) = earlier.pages.page(self.rt, at) else {
-            return self.ask_noted(at);
+            return self.ask_noted(at, None);
         };
         if earlier.is_asked {
             self.ask_if_changed(at, page)
@@ -524,7 +513,8 @@ where
         ensures asked { OnOk result (self.new.asks ≡ self.old.asks ++ ask.Page at.now ∷ []) }
         ensures refused { OnErr result (GainedAtMost self.old.asks self.new.asks (ask.Page at.now)) }
         // The network is asked once, or again if that is worth it; what is received last is the answer. What an earlier run kept is the answer
-        // if the server says that it is as it was, or if it isn't to be requested.
+        // if the server says that it is as it was, to a request with the condition of the page's own entry, or if it isn't to be requested.
+        // No other request has a condition.
         ensures tries { IfOk result (IsAnswered (lasting self.old) at.now self.old.single self.new.single) }
         ensures retries { self.new.retries ≡ self.old.retries }
         ensures takes_times { self.new.takes_times ≡ self.old.takes_times }
@@ -537,14 +527,24 @@ where
         self.is_requested = true;
         self.inner.note_ask(at)?;
         if !keeps(&self.rules, at) {
-            return self.inner.ask_noted(&mut self.passing, at);
+            return self.inner.ask_noted(&mut self.passing, at, None);
         }
         let answer = self.ask_kept(at);
         write_late(self.rt, self.kept, self.parts);
         answer
     }
 
-    fn ask_robots(&mut self, of: &Origin) -> Result<RuleSet, AllocError> {
+    fn ask_robots(&mut self, of: &Origin) -> Result<RuleSet, AllocError>
+        ensures site { parts_site self.new ≡ parts_site self.old }
+        ensures told { IfOk result (λ r. MayRuleIn (parts_site self.old) of.now r) }
+        ensures asked { OnOk result (self.new.asks ≡ self.old.asks ++ ask.Rules of.now ∷ []) }
+        ensures refused { OnErr result (GainedAtMost self.old.asks self.new.asks (ask.Rules of.now)) }
+        // The network is asked once, or again if that is worth it; the rules are by what is received last. No condition of a page is sent.
+        ensures once { self.old.retries.most ≡ 0 → OnOk result (self.new.single.asks ≡ self.old.single.asks ++ ask.Rules of.now ∷ []) }
+        ensures tries { 0 < self.old.retries.most → IfOk result (AreReceivedRules self.old.retries of.now (conditioned None self.old.single) self.new.single) }
+        ensures retries { self.new.retries ≡ self.old.retries }
+        ensures limits { self.new.limits ≡ self.old.limits }
+    {
         self.is_requested = true;
         self.inner.ask_robots(of)
     }

@@ -14,7 +14,7 @@ concluded-requires g c =
 
 pub returns-clause-answered : goal.returns-clause-answered
 returns-clause-answered g c =
-    let middle = c.ask_under.new.self.single in
+    let middle = c.ask_noted-2.new.self.single in
     let own : condition_by c.args.page.entry ≡ Some c.in-Some.condition = cc (c.in_ok-condition.ensures, c.in-Some.is) in
     if_ok_map c.concluded.result _ _
     (subst (λ (l : Lasting). IfOk c.concluded.result (IsAnswerWith l c.args.at.now (IsConcluded l c.args.at.now c.args.page.entry c.in_ok-received.received middle c.concluded.new.self.single))) c.in_ok-received.ensures.lasting c.concluded.ensures.concluded)

@@ -29,4 +29,6 @@ returns-then-not-keeps-clause-told g c =
 
 pub returns-then-not-keeps-clause-tries : goal.returns-then-not-keeps-clause-tries
 returns-then-not-keeps-clause-tries g c =
-    rw (← c.self.view_is) (passed_noted (option_map arc_value c.self.inside.earlier) c.self.inside.inner c.note_ask.new.self _ c.args.at.now c.ask_noted.result c.ask_noted.new.self.single c.in_ok-note_ask.ensures.asked c.ask_noted.ensures.tries)
+    rw (← c.self.view_is)
+    (passed_noted (option_map arc_value c.self.inside.earlier) c.self.inside.inner c.note_ask.new.self _ c.args.at.now c.ask_noted.result c.ask_noted.new.self.single c.in_ok-note_ask.ensures.asked
+    (if_ok_map c.ask_noted.result _ _ c.ask_noted.ensures.tries (λ a tries. (c.ask_noted.ensures.sent, tries))))
