@@ -3,4 +3,5 @@ pub mod EntryLaws
 pub mod FieldLaws
 pub mod IndexLaws
 pub mod ReadLaws
+pub mod ShortLaws
 pub mod StepLaws

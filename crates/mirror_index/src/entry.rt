@@ -1,9 +1,9 @@
 //! What is kept of a page.
-ghost use Rattle.std.specs.Prelude.{◌≡◌, ◌<◌, ◌^◌, ◌↔◌, IsTrue, IfOk, option_map, string_bytes};
+ghost use Rattle.std.specs.Prelude.{◌≡◌, ◌<◌, ◌≤◌, ◌+◌, ◌^◌, ◌↔◌, IsTrue, IfOk, length, option_map, string_bytes};
 ghost use Rattle.std.specs.List.{list_any};
 ghost use Rattle.local_names.specs.PlainNames.{is_control};
 ghost use Rattle.sha2.specs.Sha256.{sha256};
-ghost use Rattle.mirror_index.specs.Entries.{Entry, IsEntry, IsMark, IsName};
+ghost use Rattle.mirror_index.specs.Entries.{Entry, HasParts, IsEntry, IsMark, IsName, entry_line, value_field};
 
 use crate::line::entry_line;
 use address::Address;
@@ -212,6 +212,53 @@ fn is_name(name: &str) -> bool
     !name.as_bytes().starts_with(OWN)
 }
 
+/// The most bytes of each text of an entry whose line is short enough whatever these are: a byte is written as two at most.
+const FEW: usize = 6_000;
+
+// Whether a value that may be missing has so few bytes.
+fn has_few(value: Option<&[u8]>) -> bool
+    ensures { IsTrue result → length (value_field (option_map (λ v. v.now) value.entry)) ≤ FEW + 1 }
+{
+    match value {
+        Some(value) => value.len() <= FEW,
+        None => true,
+    }
+}
+
+// Whether the line of an entry is short enough, as far as that is seen without it: it may be if this isn't so.
+fn is_surely_short(entry: &Entry) -> bool
+    ensures short { IsTrue result → length (entry_line entry.now) ≤ MAX_LINE }
+    ensures parts { HasParts entry.now }
+{
+    let head = entry.head();
+    let _numbers = (entry.size(), entry.mark(), head.status());
+    if entry.address().as_str().len() > FEW {
+        return false;
+    }
+    if entry.name().len() > FEW {
+        return false;
+    }
+    if !has_few(head.content_type()) {
+        return false;
+    }
+    if !has_few(head.etag()) {
+        return false;
+    }
+    has_few(head.last_modified())
+}
+
+// Whether the line of an entry is short enough.
+fn is_short(alloc: Global, entry: &Entry) -> Result<bool, AllocError>
+    ensures short { IfOk result (λ is. IsTrue is ↔ length (entry_line entry.now) ≤ MAX_LINE) }
+    ensures parts { IfOk result (λ is. HasParts entry.now) }
+{
+    if is_surely_short(entry) {
+        return Ok(true);
+    }
+    let line = entry_line(alloc, entry)?;
+    Ok(line.len() <= MAX_LINE)
+}
+
 /// Whether an entry may be in an index.
 pub(crate) fn is_entry(alloc: Global, entry: &Entry) -> Result<bool, AllocError>
     ensures { IfOk result (λ may. IsTrue may ↔ IsEntry entry.now) }
@@ -219,6 +266,5 @@ pub(crate) fn is_entry(alloc: Global, entry: &Entry) -> Result<bool, AllocError>
     if !is_name(entry.name()) {
         return Ok(false);
     }
-    let line = entry_line(alloc, entry)?;
-    Ok(line.len() <= MAX_LINE)
+    is_short(alloc, entry)
 }
