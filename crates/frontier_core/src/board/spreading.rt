@@ -10,7 +10,7 @@ ghost use Rattle.frontier_core.specs.Plans.{policy};
 
 use crate::board::{Board, Followed, SpreadFault};
 use crate::counters::Share;
-use crate::following::{admits, weight};
+use crate::following::{admits, is_within, weight};
 use crate::progress::Progress;
 use address::{Address, Origin};
 use depth_labels::LabelFault;
@@ -43,17 +43,27 @@ impl Board {
     {
         let (target, kind) = self.edge_at(at, k);
         let sum = depth + weight(kind);
-        if !admits(plan, self.address_at(at), target, kind, sum) {
+        // First, as it looks at no text: of a large site most links lead beyond the limit.
+        if !is_within(plan, kind, sum) {
             return Ok(());
         }
         match self.find(target) {
             Some(i) => {
-                if sum < self.depth_at(i) {
+                // Most others lead to what is held at no greater depth, which stays as it is, whatever the filters say.
+                if self.depth_at(i) <= sum {
+                    return Ok(());
+                }
+                if admits(plan, self.address_at(at), target, kind, sum) {
                     self.lower(i, sum);
                 }
                 Ok(())
             }
-            None => self.discover(plan, at, k, sum),
+            None => {
+                if !admits(plan, self.address_at(at), target, kind, sum) {
+                    return Ok(());
+                }
+                self.discover(plan, at, k, sum)
+            }
         }
     }
 
