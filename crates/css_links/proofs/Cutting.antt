@@ -12,7 +12,7 @@ use Rattle.css_links.specs.declared.place.Turn.{Turn}
 use Rattle.css_links.specs.declared.place.Turn.TheVariants.{At, Anew, First, With, Refer, Quote, UrlQuote, Open, Close}
 use Rattle.css_links.specs.declared.place.Place.{Place}
 use Rattle.css_links.specs.declared.place.Place.TheVariants.{Between, Inside}
-use Rattle.css_links.specs.declared.place.Part.TheVariants.{Reference, Other}
+use Rattle.css_links.specs.declared.place.SheetPart.TheVariants.{Reference, Other}
 use Rattle.css_links.proofs.Moving.{Free, MoveAt, MoveAnew, MoveWith, MoveRefer, Move, moves}
 use Rattle.css_links.proofs.Keeping.{free_held, front_fed, open_in_zone, open_place}
 

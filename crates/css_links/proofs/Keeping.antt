@@ -14,8 +14,8 @@ use Rattle.css_links.specs.declared.zone.Zone.{Zone}
 use Rattle.css_links.specs.declared.zone.Zone.TheVariants as zones
 use Rattle.css_links.specs.declared.place.Turn.{Turn}
 use Rattle.css_links.specs.declared.place.Turn.TheVariants.{At, Anew, First, With, Refer, Quote, UrlQuote, Open, Close}
-use Rattle.css_links.specs.declared.place.Part.{Part}
-use Rattle.css_links.specs.declared.place.Part.TheVariants.{Word, Reference, Other, Bare, Bad}
+use Rattle.css_links.specs.declared.place.SheetPart.{SheetPart}
+use Rattle.css_links.specs.declared.place.SheetPart.TheVariants.{Word, Reference, Other, Bare, Bad}
 use Rattle.css_links.specs.declared.place.Place.{Place}
 use Rattle.css_links.specs.declared.place.Place.TheVariants.{Between, Slash, Comment, CommentStar, Import, ImportSlash, ImportComment, ImportCommentStar, Inside, Escaped, UrlBegun, UrlEnded}
 use Rattle.css_links.proofs.Feeding.{fed-append}
@@ -320,7 +320,7 @@ open_in_zone (zones.Quoted quote) raw = reference raw
 open_in_zone zones.Unquoted raw = reference raw
 open_in_zone zones.Ended raw = reference raw
 
-open_part : (part : Part) (raw : List ℕ) → left_open (Inside part) raw ≡ open_in_zone (zone (Inside part)) raw
+open_part : (part : SheetPart) (raw : List ℕ) → left_open (Inside part) raw ≡ open_in_zone (zone (Inside part)) raw
 open_part (Word l) raw = refl
 open_part (Reference quote) raw = refl
 open_part (Other quote) raw = refl

@@ -11,8 +11,8 @@ use Rattle.css_links.specs.declared.place.Lead.{Lead}
 use Rattle.css_links.specs.declared.place.Lead.TheVariants as lead
 use Rattle.css_links.specs.declared.place.Turn.{Turn}
 use Rattle.css_links.specs.declared.place.Turn.TheVariants.{At, Anew, First, With, Refer, Quote, UrlQuote, Open, Close}
-use Rattle.css_links.specs.declared.place.Part.{Part}
-use Rattle.css_links.specs.declared.place.Part.TheVariants.{Word, Reference, Other, Bare, Bad}
+use Rattle.css_links.specs.declared.place.SheetPart.{SheetPart}
+use Rattle.css_links.specs.declared.place.SheetPart.TheVariants.{Word, Reference, Other, Bare, Bad}
 use Rattle.css_links.specs.declared.place.Escape.{Escape}
 use Rattle.css_links.specs.declared.place.Escape.TheVariants.{Begun, Digits, Return}
 use Rattle.css_links.specs.declared.place.Place.{Place}
@@ -150,38 +150,38 @@ ended_moves b =
     if_move zones.Ended b (is_white b) _ _ (λ e. e)
     (λ _. if_move zones.Ended b (b == 41) _ _ (λ e. eqb-true b 41 e) (λ _. bad_moves zones.Ended b))
 
-inside_moves : (part : Part) (raw : List ℕ) (b : ℕ) → Move (part_zone part) b (inside part raw b)
+inside_moves : (part : SheetPart) (raw : List ℕ) (b : ℕ) → Move (part_zone part) b (inside part raw b)
 inside_moves (Word l) raw b = word_moves l raw b
 inside_moves (Reference quote) raw b = reference_moves quote b
 inside_moves (Other quote) raw b = other_moves quote b
 inside_moves Bare raw b = bare_moves b
 inside_moves Bad raw b = bad_moves zones.Outside b
 
-put_inside : (part : Part) (b : ℕ) → Move (part_zone part) b (put part (Inside part))
+put_inside : (part : SheetPart) (b : ℕ) → Move (part_zone part) b (put part (Inside part))
 put_inside (Word l) b = tt
 put_inside (Reference quote) b = refl
 put_inside (Other quote) b = tt
 put_inside Bare b = tt
 put_inside Bad b = tt
 
-put_escaped : (part : Part) (escape : Escape) (b : ℕ) → Move (part_zone part) b (put part (Escaped part escape))
+put_escaped : (part : SheetPart) (escape : Escape) (b : ℕ) → Move (part_zone part) b (put part (Escaped part escape))
 put_escaped (Word l) escape b = tt
 put_escaped (Reference quote) escape b = refl
 put_escaped (Other quote) escape b = tt
 put_escaped Bare escape b = tt
 put_escaped Bad escape b = tt
 
-continued_moves : (part : Part) (b : ℕ) → Move (part_zone part) b (continued part b)
+continued_moves : (part : SheetPart) (b : ℕ) → Move (part_zone part) b (continued part b)
 continued_moves part b = if_move (part_zone part) b (b == 13) _ _ (λ _. put_escaped part Return b) (λ _. put_inside part b)
 
-broken_moves : (part : Part) (b : ℕ) → Move (part_zone part) b (broken part b)
+broken_moves : (part : SheetPart) (b : ℕ) → Move (part_zone part) b (broken part b)
 broken_moves (Word l) b = tt
 broken_moves (Reference quote) b = continued_moves (Reference quote) b
 broken_moves (Other quote) b = continued_moves (Other quote) b
 broken_moves Bare b = tt
 broken_moves Bad b = tt
 
-escaped_moves : (part : Part) (escape : Escape) (raw : List ℕ) (b : ℕ) → Move (part_zone part) b (escaped part escape raw b)
+escaped_moves : (part : SheetPart) (escape : Escape) (raw : List ℕ) (b : ℕ) → Move (part_zone part) b (escaped part escape raw b)
 escaped_moves part Begun raw b =
     if_move (part_zone part) b (is_newline b) _ _ (λ _. broken_moves part b)
     (λ _. if_move (part_zone part) b (is_ascii_hexdigit b) _ _ (λ _. put_escaped part (Digits 1) b) (λ _. put_inside part b))

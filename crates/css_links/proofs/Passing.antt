@@ -13,8 +13,8 @@ use Rattle.css_links.specs.declared.escape.Reading.TheVariants.{Plain}
 use Rattle.css_links.specs.declared.span.Span.TheVariants as span
 use Rattle.css_links.specs.declared.place.Lead.{Lead}
 use Rattle.css_links.specs.declared.place.Lead.TheVariants as lead
-use Rattle.css_links.specs.declared.place.Part.{Part}
-use Rattle.css_links.specs.declared.place.Part.TheVariants.{Word, Reference, Other, Bare, Bad}
+use Rattle.css_links.specs.declared.place.SheetPart.{SheetPart}
+use Rattle.css_links.specs.declared.place.SheetPart.TheVariants.{Word, Reference, Other, Bare, Bad}
 use Rattle.css_links.specs.declared.place.Turn.{Turn}
 use Rattle.css_links.specs.declared.place.Turn.TheVariants.{At, Anew, First, With, Refer}
 use Rattle.css_links.specs.declared.place.Place.{Place}

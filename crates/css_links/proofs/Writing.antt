@@ -10,7 +10,7 @@ use Rattle.css_links.specs.Rewriting.{written_byte, written, IsWritableByte}
 use Rattle.css_links.specs.declared.escape.Reading.TheVariants.{Plain}
 use Rattle.css_links.specs.declared.place.Turn.TheVariants.{At, With, Refer, UrlQuote}
 use Rattle.css_links.specs.declared.place.Escape.TheVariants.{Begun}
-use Rattle.css_links.specs.declared.place.Part.TheVariants.{Reference, Bare, Bad}
+use Rattle.css_links.specs.declared.place.SheetPart.TheVariants.{Reference, Bare, Bad}
 use Rattle.css_links.specs.declared.place.Place.{Place}
 use Rattle.css_links.specs.declared.place.Place.TheVariants.{Inside, Escaped, UrlBegun, UrlEnded}
 use Rattle.css_links.proofs.Feeding.{fed-append}

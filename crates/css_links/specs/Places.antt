@@ -8,8 +8,8 @@ use Rattle.css_links.specs.Bytes.{is_newline, is_white, is_quote, is_name, is_un
 use Rattle.css_links.specs.Escapes.{unescaped}
 use Rattle.css_links.specs.declared.place.Lead.{Lead}
 use Rattle.css_links.specs.declared.place.Lead.TheVariants as lead
-use Rattle.css_links.specs.declared.place.Part.{Part}
-use Rattle.css_links.specs.declared.place.Part.TheVariants.{Word, Reference, Other, Bare, Bad}
+use Rattle.css_links.specs.declared.place.SheetPart.{SheetPart}
+use Rattle.css_links.specs.declared.place.SheetPart.TheVariants.{Word, Reference, Other, Bare, Bad}
 use Rattle.css_links.specs.declared.place.Escape.{Escape}
 use Rattle.css_links.specs.declared.place.Escape.TheVariants.{Begun, Digits, Return}
 use Rattle.css_links.specs.declared.place.Turn.{Turn}
@@ -133,7 +133,7 @@ url_ended b =
     else bad b
 
 -- in a part
-abbrev pub inside : Part → List ℕ → ℕ → Turn
+abbrev pub inside : SheetPart → List ℕ → ℕ → Turn
 inside (Word l) raw b = word l raw b
 inside (Reference quote) raw b = reference_string quote b
 inside (Other quote) raw b = other_string quote b
@@ -143,7 +143,7 @@ inside Bad raw b = bad b
 -- ---- escapes
 
 -- the place, with the byte put to the part's text, if that is kept
-abbrev pub put : Part → Place → Turn
+abbrev pub put : SheetPart → Place → Turn
 put (Word l) p = With p
 put (Reference quote) p = With p
 put (Other quote) p = At p
@@ -151,11 +151,11 @@ put Bare p = With p
 put Bad p = At p
 
 -- a newline in a string, after a backslash: it is left out
-abbrev pub continued : Part → ℕ → Turn
+abbrev pub continued : SheetPart → ℕ → Turn
 continued part b = if b == 13 then put part (Escaped part Return) else put part (Inside part)
 
 -- a newline after a backslash: no escape, except in a string (section 4.3.8)
-abbrev pub broken : Part → ℕ → Turn
+abbrev pub broken : SheetPart → ℕ → Turn
 broken (Word l) b = At Between
 broken (Reference quote) b = continued (Reference quote) b
 broken (Other quote) b = continued (Other quote) b
@@ -163,14 +163,14 @@ broken Bare b = At (Inside Bad)
 broken Bad b = At (Inside Bad)
 
 -- after a backslash (section 4.3.7)
-abbrev pub escape_begun : Part → ℕ → Turn
+abbrev pub escape_begun : SheetPart → ℕ → Turn
 escape_begun part b =
     if is_newline b then broken part b
     else if is_ascii_hexdigit b then put part (Escaped part (Digits 1))
     else put part (Inside part)
 
 -- after a number of at most six digits: a white belongs to it
-abbrev pub escape_digits : Part → ℕ → List ℕ → ℕ → Turn
+abbrev pub escape_digits : SheetPart → ℕ → List ℕ → ℕ → Turn
 escape_digits part n raw b =
     if nat_lt n 6 && is_ascii_hexdigit b then put part (Escaped part (Digits (n + 1)))
     else if b == 13 then put part (Escaped part Return)
@@ -178,11 +178,11 @@ escape_digits part n raw b =
     else inside part raw b
 
 -- after a carriage return in an escape
-abbrev pub escape_return : Part → List ℕ → ℕ → Turn
+abbrev pub escape_return : SheetPart → List ℕ → ℕ → Turn
 escape_return part raw b = if b == 10 then put part (Inside part) else inside part raw b
 
 -- in an escape in a part
-abbrev pub escaped : Part → Escape → List ℕ → ℕ → Turn
+abbrev pub escaped : SheetPart → Escape → List ℕ → ℕ → Turn
 escaped part Begun raw b = escape_begun part b
 escaped part (Digits n) raw b = escape_digits part n raw b
 escaped part Return raw b = escape_return part raw b

@@ -5,8 +5,8 @@ use Rattle.css_links.specs.Escapes.{unescaped}
 use Rattle.css_links.specs.Places.{turn}
 use Rattle.css_links.specs.declared.place.Turn.{Turn}
 use Rattle.css_links.specs.declared.place.Turn.TheVariants.{At, Anew, First, With, Refer, Quote, UrlQuote, Open, Close}
-use Rattle.css_links.specs.declared.place.Part.{Part}
-use Rattle.css_links.specs.declared.place.Part.TheVariants.{Word, Reference, Other, Bare, Bad}
+use Rattle.css_links.specs.declared.place.SheetPart.{SheetPart}
+use Rattle.css_links.specs.declared.place.SheetPart.TheVariants.{Word, Reference, Other, Bare, Bad}
 use Rattle.css_links.specs.declared.place.Place.{Place}
 use Rattle.css_links.specs.declared.place.Place.TheVariants.{Between, Slash, Comment, CommentStar, Import, ImportSlash, ImportComment, ImportCommentStar, Inside, Escaped, UrlBegun, UrlEnded}
 
@@ -43,7 +43,7 @@ abbrev pub without : Seen → Seen
 without s = record { found = s.found; depth = s.depth - 1 }
 
 -- a string between tokens: a reference directly in an image set (CSS Images Module Level 4, section 2.4)
-abbrev pub string_at : ℕ → ℕ → Part
+abbrev pub string_at : ℕ → ℕ → SheetPart
 string_at depth quote = if depth == 1 then Reference quote else Other quote
 
 -- a reference that isn't empty
@@ -81,7 +81,7 @@ fed s [] = s
 fed s (b ∷ bs) = fed (step s b) bs
 
 -- what the end of the sheet leaves open: a string or URL that is a reference counts (sections 4.3.5 and 4.3.6)
-abbrev pub left_open_in : Part → List ℕ → List (List ℕ)
+abbrev pub left_open_in : SheetPart → List ℕ → List (List ℕ)
 left_open_in (Word l) raw = []
 left_open_in (Reference quote) raw = reference raw
 left_open_in (Other quote) raw = []

@@ -6,8 +6,8 @@ use Rattle.css_links.specs.Places.{turn}
 use Rattle.css_links.specs.References.{Front, reference, step, nothing_read, references}
 use Rattle.css_links.specs.declared.place.Turn.{Turn}
 use Rattle.css_links.specs.declared.place.Turn.TheVariants.{At, Anew, First, With, Refer, Quote, UrlQuote, Open, Close}
-use Rattle.css_links.specs.declared.place.Part.{Part}
-use Rattle.css_links.specs.declared.place.Part.TheVariants.{Word, Reference, Other, Bare, Bad}
+use Rattle.css_links.specs.declared.place.SheetPart.{SheetPart}
+use Rattle.css_links.specs.declared.place.SheetPart.TheVariants.{Word, Reference, Other, Bare, Bad}
 use Rattle.css_links.specs.declared.zone.Zone.{Zone}
 use Rattle.css_links.specs.declared.zone.Zone.TheVariants.{Outside, Begun, Quoted, Unquoted, Ended}
 use Rattle.css_links.specs.declared.place.Place.{Place}
@@ -74,7 +74,7 @@ abbrev pub anew : Change → List ℕ → List ℕ
 anew change raw = anew_of change raw (reference raw)
 
 -- what a part is in, as far as a rewriter cares
-abbrev pub part_zone : Part → Zone
+abbrev pub part_zone : SheetPart → Zone
 part_zone (Word l) = Outside
 part_zone (Reference quote) = Quoted quote
 part_zone (Other quote) = Outside

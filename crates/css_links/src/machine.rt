@@ -8,7 +8,7 @@ ghost use Rattle.css_links.specs.declared.place.Place.TheVariants as places;
 
 use crate::escape::decoded;
 use crate::found::Found;
-use crate::place::{Lead, Part, Place, Turn};
+use crate::place::{Lead, Place, SheetPart, Turn};
 use crate::span::{Span, from_star};
 use crate::turns::turn;
 use std::alloc::{AllocError, Global};
@@ -60,17 +60,17 @@ impl Machine {
         }
     }
 
-    fn part_run<'a>(&mut self, part: Part, text: &'a [u8]) -> Result<&'a [u8], AllocError>
+    fn part_run<'a>(&mut self, part: SheetPart, text: &'a [u8]) -> Result<&'a [u8], AllocError>
         requires { self.old.place ≡ places.Inside part }
         ensures gives { IfOk result (λ left. fed (front_of self.new) left.now ≡ fed (front_of self.old) text.now) }
         ensures shorter { IfOk result (λ left. length left.now ≤ length text.now) }
     {
         match part {
-            Part::Word(_) => self.text_run(Span::Name, text),
-            Part::Reference(quote) => self.text_run(Span::Quoted(quote), text),
-            Part::Other(quote) => Ok(Span::Quoted(quote).split(text).1),
-            Part::Bare => self.text_run(Span::Unquoted, text),
-            Part::Bad => Ok(Span::Bad.split(text).1),
+            SheetPart::Word(_) => self.text_run(Span::Name, text),
+            SheetPart::Reference(quote) => self.text_run(Span::Quoted(quote), text),
+            SheetPart::Other(quote) => Ok(Span::Quoted(quote).split(text).1),
+            SheetPart::Bare => self.text_run(Span::Unquoted, text),
+            SheetPart::Bad => Ok(Span::Bad.split(text).1),
         }
     }
 
@@ -155,7 +155,7 @@ impl Machine {
             Turn::UrlQuote(quote) => {
                 self.depth = opened(false, self.depth)?;
                 self.raw.clear();
-                self.place = Place::Inside(Part::Reference(quote));
+                self.place = Place::Inside(SheetPart::Reference(quote));
             },
             Turn::Open(set) => {
                 self.depth = opened(set, self.depth)?;
@@ -184,15 +184,15 @@ impl Machine {
     }
 
     // Notes what the end of the sheet ends in this part.
-    fn close_part(&mut self, part: Part) -> Result<(), AllocError>
+    fn close_part(&mut self, part: SheetPart) -> Result<(), AllocError>
         ensures { OnOk result (self.new.found.items ≡ self.old.found.items ++ left_open_in part self.old.raw.items) }
     {
         match part {
-            Part::Reference(_) => self.note(),
-            Part::Bare => self.note(),
-            Part::Word(_) => Ok(()),
-            Part::Other(_) => Ok(()),
-            Part::Bad => Ok(()),
+            SheetPart::Reference(_) => self.note(),
+            SheetPart::Bare => self.note(),
+            SheetPart::Word(_) => Ok(()),
+            SheetPart::Other(_) => Ok(()),
+            SheetPart::Bad => Ok(()),
         }
     }
 
@@ -232,13 +232,13 @@ fn opened(set: bool, depth: u64) -> Result<u64, AllocError>
 }
 
 // What a string between tokens is.
-fn string_at(depth: u64, quote: u8) -> Part
+fn string_at(depth: u64, quote: u8) -> SheetPart
     ensures { result ≡ string_at depth quote }
 {
     if depth == 1 {
-        Part::Reference(quote)
+        SheetPart::Reference(quote)
     } else {
-        Part::Other(quote)
+        SheetPart::Other(quote)
     }
 }
 
@@ -247,7 +247,7 @@ fn place_after(before: &[u8], plain: &[u8]) -> Place
     ensures { result ≡ place_after (reverse before.now) plain.now }
 {
     match plain {
-        [] => Place::Inside(Part::Word(lead_behind(before))),
+        [] => Place::Inside(SheetPart::Word(lead_behind(before))),
         _ => Place::Between,
     }
 }

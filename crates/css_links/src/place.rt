@@ -10,7 +10,7 @@ pub(crate) enum Lead {
 
 /// A part of a style sheet in which escapes are read.
 #[derive(Clone, Copy)]
-pub(crate) enum Part {
+pub(crate) enum SheetPart {
     /// A word: a run of name bytes and escapes.
     Word(Lead),
     /// A string between such quotes that is a reference.
@@ -50,8 +50,8 @@ pub(crate) enum Place {
     ImportSlash,
     ImportComment,
     ImportCommentStar,
-    Inside(Part),
-    Escaped(Part, Escape),
+    Inside(SheetPart),
+    Escaped(SheetPart, Escape),
     /// After `url(` and white.
     UrlBegun,
     /// After a URL without quotes and white.

@@ -7,7 +7,7 @@ ghost use Rattle.css_links.specs.declared.place.Lead.TheVariants as lead;
 
 use crate::bytes::{is_name, is_newline, is_quote, is_unfit, is_white};
 use crate::escape::{has_escape, unescaped};
-use crate::place::{Escape, Lead, Part, Place, Turn};
+use crate::place::{Escape, Lead, Place, SheetPart, Turn};
 use std::alloc::{AllocError, Global};
 
 /// What a byte does in a place, after that text of a word, string or URL. Fails only if memory runs out.
@@ -53,13 +53,13 @@ fn between(byte: u8) -> Turn
     } else if byte == b')' {
         Turn::Close
     } else if byte == b'#' {
-        Turn::Anew(Place::Inside(Part::Word(Lead::Hash)))
+        Turn::Anew(Place::Inside(SheetPart::Word(Lead::Hash)))
     } else if byte == b'@' {
-        Turn::Anew(Place::Inside(Part::Word(Lead::At)))
+        Turn::Anew(Place::Inside(SheetPart::Word(Lead::At)))
     } else if byte == b'\\' {
-        Turn::First(Place::Escaped(Part::Word(Lead::Nothing), Escape::Begun))
+        Turn::First(Place::Escaped(SheetPart::Word(Lead::Nothing), Escape::Begun))
     } else if is_name(byte) {
-        Turn::First(Place::Inside(Part::Word(Lead::Nothing)))
+        Turn::First(Place::Inside(SheetPart::Word(Lead::Nothing)))
     } else {
         Turn::At(Place::Between)
     }
@@ -103,7 +103,7 @@ fn import(byte: u8) -> Turn
     } else if byte == b'/' {
         Turn::At(Place::ImportSlash)
     } else if is_quote(byte) {
-        Turn::Anew(Place::Inside(Part::Reference(byte)))
+        Turn::Anew(Place::Inside(SheetPart::Reference(byte)))
     } else {
         between(byte)
     }
@@ -139,15 +139,15 @@ fn import_comment_star(byte: u8) -> Turn
     }
 }
 
-fn inside(alloc: Global, part: Part, raw: &[u8], byte: u8) -> Result<Turn, AllocError>
+fn inside(alloc: Global, part: SheetPart, raw: &[u8], byte: u8) -> Result<Turn, AllocError>
     ensures { IfOk result (λ t. t ≡ places.inside part raw.now byte) }
 {
     match part {
-        Part::Word(lead) => word(alloc, lead, raw, byte),
-        Part::Reference(quote) => Ok(reference_string(quote, byte)),
-        Part::Other(quote) => Ok(other_string(quote, byte)),
-        Part::Bare => Ok(bare(byte)),
-        Part::Bad => Ok(bad(byte)),
+        SheetPart::Word(lead) => word(alloc, lead, raw, byte),
+        SheetPart::Reference(quote) => Ok(reference_string(quote, byte)),
+        SheetPart::Other(quote) => Ok(other_string(quote, byte)),
+        SheetPart::Bare => Ok(bare(byte)),
+        SheetPart::Bad => Ok(bad(byte)),
     }
 }
 
@@ -155,10 +155,10 @@ fn word(alloc: Global, lead: Lead, raw: &[u8], byte: u8) -> Result<Turn, AllocEr
     ensures { IfOk result (λ t. t ≡ places.word lead raw.now byte) }
 {
     if is_name(byte) {
-        return Ok(Turn::With(Place::Inside(Part::Word(lead))));
+        return Ok(Turn::With(Place::Inside(SheetPart::Word(lead))));
     }
     if byte == b'\\' {
-        return Ok(Turn::With(Place::Escaped(Part::Word(lead), Escape::Begun)));
+        return Ok(Turn::With(Place::Escaped(SheetPart::Word(lead), Escape::Begun)));
     }
     behind_word(alloc, lead, raw, byte)
 }
@@ -227,9 +227,9 @@ fn reference_string(quote: u8, byte: u8) -> Turn
     } else if is_newline(byte) {
         Turn::At(Place::Between)
     } else if byte == b'\\' {
-        Turn::With(Place::Escaped(Part::Reference(quote), Escape::Begun))
+        Turn::With(Place::Escaped(SheetPart::Reference(quote), Escape::Begun))
     } else {
-        Turn::With(Place::Inside(Part::Reference(quote)))
+        Turn::With(Place::Inside(SheetPart::Reference(quote)))
     }
 }
 
@@ -239,9 +239,9 @@ fn other_string(quote: u8, byte: u8) -> Turn
     if byte == quote || is_newline(byte) {
         Turn::At(Place::Between)
     } else if byte == b'\\' {
-        Turn::At(Place::Escaped(Part::Other(quote), Escape::Begun))
+        Turn::At(Place::Escaped(SheetPart::Other(quote), Escape::Begun))
     } else {
-        Turn::At(Place::Inside(Part::Other(quote)))
+        Turn::At(Place::Inside(SheetPart::Other(quote)))
     }
 }
 
@@ -253,11 +253,11 @@ fn bare(byte: u8) -> Turn
     } else if is_white(byte) {
         Turn::At(Place::UrlEnded)
     } else if byte == b'\\' {
-        Turn::With(Place::Escaped(Part::Bare, Escape::Begun))
+        Turn::With(Place::Escaped(SheetPart::Bare, Escape::Begun))
     } else if is_unfit(byte) {
-        Turn::At(Place::Inside(Part::Bad))
+        Turn::At(Place::Inside(SheetPart::Bad))
     } else {
-        Turn::With(Place::Inside(Part::Bare))
+        Turn::With(Place::Inside(SheetPart::Bare))
     }
 }
 
@@ -267,9 +267,9 @@ fn bad(byte: u8) -> Turn
     if byte == b')' {
         Turn::At(Place::Between)
     } else if byte == b'\\' {
-        Turn::At(Place::Escaped(Part::Bad, Escape::Begun))
+        Turn::At(Place::Escaped(SheetPart::Bad, Escape::Begun))
     } else {
-        Turn::At(Place::Inside(Part::Bad))
+        Turn::At(Place::Inside(SheetPart::Bad))
     }
 }
 
@@ -298,19 +298,19 @@ fn url_ended(byte: u8) -> Turn
 }
 
 // Goes to a place, with the byte put to the part's text, if that is kept.
-fn put(part: Part, place: Place) -> Turn
+fn put(part: SheetPart, place: Place) -> Turn
     ensures { result ≡ places.put part place }
 {
     match part {
-        Part::Word(_) => Turn::With(place),
-        Part::Reference(_) => Turn::With(place),
-        Part::Other(_) => Turn::At(place),
-        Part::Bare => Turn::With(place),
-        Part::Bad => Turn::At(place),
+        SheetPart::Word(_) => Turn::With(place),
+        SheetPart::Reference(_) => Turn::With(place),
+        SheetPart::Other(_) => Turn::At(place),
+        SheetPart::Bare => Turn::With(place),
+        SheetPart::Bad => Turn::At(place),
     }
 }
 
-fn continued(part: Part, byte: u8) -> Turn
+fn continued(part: SheetPart, byte: u8) -> Turn
     ensures { result ≡ places.continued part byte }
 {
     if byte == b'\r' {
@@ -320,21 +320,21 @@ fn continued(part: Part, byte: u8) -> Turn
     }
 }
 
-fn broken(part: Part, byte: u8) -> Turn
+fn broken(part: SheetPart, byte: u8) -> Turn
     ensures { result ≡ places.broken part byte }
 {
     match part {
-        Part::Word(_) => Turn::At(Place::Between),
-        Part::Reference(quote) => continued(Part::Reference(quote), byte),
-        Part::Other(quote) => continued(Part::Other(quote), byte),
-        Part::Bare => Turn::At(Place::Inside(Part::Bad)),
-        Part::Bad => Turn::At(Place::Inside(Part::Bad)),
+        SheetPart::Word(_) => Turn::At(Place::Between),
+        SheetPart::Reference(quote) => continued(SheetPart::Reference(quote), byte),
+        SheetPart::Other(quote) => continued(SheetPart::Other(quote), byte),
+        SheetPart::Bare => Turn::At(Place::Inside(SheetPart::Bad)),
+        SheetPart::Bad => Turn::At(Place::Inside(SheetPart::Bad)),
     }
 }
 
 fn escaped(
     alloc: Global,
-    part: Part,
+    part: SheetPart,
     escape: Escape,
     raw: &[u8],
     byte: u8,
@@ -348,7 +348,7 @@ fn escaped(
     }
 }
 
-fn escape_begun(part: Part, byte: u8) -> Turn
+fn escape_begun(part: SheetPart, byte: u8) -> Turn
     ensures { result ≡ places.escape_begun part byte }
 {
     if is_newline(byte) {
@@ -362,7 +362,7 @@ fn escape_begun(part: Part, byte: u8) -> Turn
 
 fn escape_digits(
     alloc: Global,
-    part: Part,
+    part: SheetPart,
     count: u8,
     raw: &[u8],
     byte: u8,
@@ -381,7 +381,7 @@ fn escape_digits(
     inside(alloc, part, raw, byte)
 }
 
-fn escape_return(alloc: Global, part: Part, raw: &[u8], byte: u8) -> Result<Turn, AllocError>
+fn escape_return(alloc: Global, part: SheetPart, raw: &[u8], byte: u8) -> Result<Turn, AllocError>
     ensures { IfOk result (λ t. t ≡ places.escape_return part raw.now byte) }
 {
     if byte == b'\n' {

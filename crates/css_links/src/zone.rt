@@ -2,7 +2,7 @@
 ghost use Rattle.std.specs.Prelude.{◌≡◌};
 ghost use Rattle.css_links.specs.Rewriting.{part_zone, zone};
 
-use crate::place::{Part, Place};
+use crate::place::{Place, SheetPart};
 
 /// What a place is in.
 #[derive(Clone, Copy)]
@@ -19,15 +19,15 @@ pub(crate) enum Zone {
     Ended,
 }
 
-fn part_zone(part: Part) -> Zone
+fn part_zone(part: SheetPart) -> Zone
     ensures { result ≡ part_zone part }
 {
     match part {
-        Part::Word(_) => Zone::Outside,
-        Part::Reference(quote) => Zone::Quoted(quote),
-        Part::Other(_) => Zone::Outside,
-        Part::Bare => Zone::Unquoted,
-        Part::Bad => Zone::Outside,
+        SheetPart::Word(_) => Zone::Outside,
+        SheetPart::Reference(quote) => Zone::Quoted(quote),
+        SheetPart::Other(_) => Zone::Outside,
+        SheetPart::Bare => Zone::Unquoted,
+        SheetPart::Bad => Zone::Outside,
     }
 }
 

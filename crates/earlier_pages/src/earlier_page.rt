@@ -13,7 +13,7 @@ use std::marker::Model;
 
 // A file that may be a page's.
 #[derive(Drop)]
-pub(crate) struct PageFile<F> {
+pub(crate) struct FoundFile<F> {
     pub(crate) path: String,
     // Whether it has the page's own name.
     pub(crate) is_own: bool,
@@ -25,10 +25,10 @@ pub(crate) struct PageFile<F> {
 pub struct EarlierPage<'a, F: Read + Drop> {
     alloc: Global,
     entry: &'a Entry,
-    file: PageFile<F>,
+    file: FoundFile<F>,
     // Other files that may be the page's, with as many bytes.
-    other: Option<PageFile<F>>,
-    last: Option<PageFile<F>>,
+    other: Option<FoundFile<F>>,
+    last: Option<FoundFile<F>>,
 }
 
 impl<'a, F: Read + Drop> Model for EarlierPage<'a, F> {
@@ -106,9 +106,9 @@ impl<'a, F: Read + Drop> EarlierPage<'a, F> {
     pub(crate) fn new(
         alloc: Global,
         entry: &'a Entry,
-        file: PageFile<F>,
-        other: Option<PageFile<F>>,
-        last: Option<PageFile<F>>,
+        file: FoundFile<F>,
+        other: Option<FoundFile<F>>,
+        last: Option<FoundFile<F>>,
     ) -> EarlierPage<'a, F>
         ensures entry { result.entry ≡ entry.now }
         ensures file { result.file ≡ file.opened }
@@ -182,7 +182,7 @@ impl<'a, F: Read + Drop> EarlierPage<'a, F> {
             other: _other,
             last: _last,
         } = self;
-        let PageFile {
+        let FoundFile {
             path: _path,
             is_own: _is_own,
             opened,

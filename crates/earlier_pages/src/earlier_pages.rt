@@ -3,7 +3,7 @@ ghost use Rattle.std.specs.Prelude.{◌≡◌, IfSome};
 ghost use Rattle.mirror_index.specs.Indexes.{HasThis};
 
 use crate::change_time::changed_at;
-use crate::earlier_page::{EarlierPage, PageFile};
+use crate::earlier_page::{EarlierPage, FoundFile};
 use address::Address;
 use mirror_index::{Entry, Mark, MirrorIndex};
 use std::alloc::Global;
@@ -76,12 +76,12 @@ impl EarlierPages {
         entry: &Entry,
         before: &str,
         ending: &str,
-    ) -> Option<PageFile<R::File>> {
+    ) -> Option<FoundFile<R::File>> {
         let folder = self.folder.as_str();
         let name = entry.name();
         let path = format!(in self.alloc; "{folder}/{before}{name}{ending}").ok()?;
         let opened = file_at(rt, path.as_str(), entry)?;
-        Some(PageFile {
+        Some(FoundFile {
             path,
             is_own: before.is_empty() && ending.is_empty(),
             opened,

@@ -10,7 +10,7 @@ use Rattle.regex_hir.specs.declared.look.Look.{Look}
 use Rattle.regex_hir.specs.declared.look.Look.TheVariants.{Start, End}
 use Rattle.regex_nfa.specs.declared.nfa.Nfa.{Nfa}
 use Rattle.expressions.specs.inner.Accepting.{begins_from, AreFlags, AreMarks, IsAlike}
-use Rattle.expressions.specs.declared.table.Row.{Row}
+use Rattle.expressions.specs.declared.table.SetRow.{SetRow}
 use Rattle.expressions.specs.inner.Tables.{set_at, AreSets, IsCell, IsEdge, IsEndSet, IsMore, IsRow, LooksAtEdges}
 use Rattle.expressions.proofs.Accepting.{begins-here}
 
@@ -110,13 +110,13 @@ cells_more nfa before after from byte number row more is inside cell cells b bel
 -- ---- walks
 
 -- the row of a place's set says whether a match begins there
-pub row_begins : (nfa : Nfa) (sets : List (Vec Bool Global)) (text : List ℕ) (at number : ℕ) (row : Row) → IsRow nfa sets number row → AreFlags nfa text at (set_at sets number) → at ≤ length text →
+pub row_begins : (nfa : Nfa) (sets : List (Vec Bool Global)) (text : List ℕ) (at number : ℕ) (row : SetRow) → IsRow nfa sets number row → AreFlags nfa text at (set_at sets number) → at ≤ length text →
     begins_from nfa text (at + 1) ≡ false → row.begins ≡ begins_from nfa text at
 row_begins nfa sets text at number row its flags inside none =
     begins-here nfa text at row.begins inside (its.begins ∙ flags nfa.start nfa.start_in) (sym none)
 
 -- and has the set of the place before
-pub row_steps : (nfa : Nfa) (sets : List (Vec Bool Global)) (text : List ℕ) (at after number byte : ℕ) (row : Row) → LooksAtEdges nfa → IsRow nfa sets number row → AreFlags nfa text after (set_at sets number) →
+pub row_steps : (nfa : Nfa) (sets : List (Vec Bool Global)) (text : List ℕ) (at after number byte : ℕ) (row : SetRow) → LooksAtEdges nfa → IsRow nfa sets number row → AreFlags nfa text after (set_at sets number) →
     after ≡ at + 1 → row.begins ≡ false → 0 < at → at < length text → byte < 256 → slice_get text at ≡ Some byte →
     (slice_index row.before byte < length sets) × AreFlags nfa text at (set_at sets (slice_index row.before byte))
 row_steps nfa sets text at after number byte row edges its flags is goes some inside small read =

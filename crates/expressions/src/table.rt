@@ -20,7 +20,7 @@ const MOST_FLAGS: usize = 1 << 16;
 
 // What is known of a set.
 #[derive(Drop)]
-struct Row {
+struct SetRow {
     // Whether a match begins at a place that has it.
     begins: bool,
     // The set of the place before, by the byte that is read there.
@@ -31,7 +31,7 @@ struct Row {
 #[derive(Drop)]
 pub(crate) struct Table {
     sets: Vec<Vec<bool>>,
-    rows: Vec<Row>,
+    rows: Vec<SetRow>,
 }
 
 // Whether the state looks at a text's start or end, if it looks.
@@ -168,7 +168,7 @@ fn row_of(
     sets: &mut Vec<Vec<bool>>,
     from: usize,
     most: usize,
-) -> Result<Option<Row>, AllocError>
+) -> Result<Option<SetRow>, AllocError>
     requires order { IsOrder nfa.now order.now }
     requires from { from < vec_len sets.old }
     requires sets { AreSets nfa.now sets.old.items }
@@ -182,7 +182,7 @@ fn row_of(
     let begins = is_begun(nfa, set_of(sets, from));
     let mut before = [0; 256];
     if begins {
-        return Ok(Some(Row { begins, before }));
+        return Ok(Some(SetRow { begins, before }));
     }
     for byte in 0..256 {
         match cell(alloc, nfa, order, sets, from, byte as u8, most)? {
@@ -190,7 +190,7 @@ fn row_of(
             None => return Ok(None),
         }
     }
-    Ok(Some(Row { begins, before }))
+    Ok(Some(SetRow { begins, before }))
 }
 
 // The row of each set, with the sets that rows name; none if there are too many sets.
@@ -200,7 +200,7 @@ fn rows_of(
     order: &[u32],
     sets: &mut Vec<Vec<bool>>,
     most: usize,
-) -> Result<Option<Vec<Row>>, AllocError>
+) -> Result<Option<Vec<SetRow>>, AllocError>
     requires order { IsOrder nfa.now order.now }
     requires sets { AreSets nfa.now sets.old.items }
     requires few { vec_len sets.old ≤ most }
@@ -236,7 +236,7 @@ pub(crate) fn table_of(alloc: Global, nfa: &Nfa, order: &[u32]) -> Result<Option
 }
 
 // The row of the set with this number.
-fn row_in<'a>(nfa: &Nfa, table: &'a Table, number: u8) -> &'a Row
+fn row_in<'a>(nfa: &Nfa, table: &'a Table, number: u8) -> &'a SetRow
     requires table { IsTable nfa.now table.now }
     requires number { number < length table.now.sets.items }
     ensures { IsRow nfa.now table.now.sets.items number result.now }

@@ -9,7 +9,7 @@ use Rattle.fetcher.specs.declared.fault_kind.FaultClass.{FaultClass}
 use Rattle.fetcher.specs.declared.fault_kind.FaultClass.TheVariants.{Network, Protocol}
 use Rattle.fetcher.specs.declared.fault_kind.FaultKind.{FaultKind}
 use Rattle.fetcher.specs.declared.fault_kind.FaultKind.TheVariants.{Connect, Device, Ended, Head, HeadLong, Length, Coding, Chunk, BodyLong}
-use Rattle.fetcher.specs.declared.fault_kind.Row.{Row}
+use Rattle.fetcher.specs.declared.fault_kind.KindRow.{KindRow}
 use Rattle.fetcher.specs.declared.fault_kind.TheConstants.{TABLE}
 use Rattle.fetcher.specs.FaultWords.{place_of, kinds, words, word_of, class_of}
 
@@ -31,13 +31,13 @@ own_places = refl
 
 -- ---- what the code reads in a table
 
-pub word_at : {T : Type 0} (read : T → List ℕ) (rows : List (Row T)) (at : ℕ) (d : Row T) → at < length rows
+pub word_at : {T : Type 0} (read : T → List ℕ) (rows : List (KindRow T)) (at : ℕ) (d : KindRow T) → at < length rows
     → read (get_or rows at d).word ≡ get_or (map (λ row. read row.word) rows) at []
-word_at {T} read rows at d within = sym (get_or-map (λ (row : Row T). read row.word) rows at d [] within)
+word_at {T} read rows at d within = sym (get_or-map (λ (row : KindRow T). read row.word) rows at d [] within)
 
-pub class_at : {T : Type 0} (rows : List (Row T)) (at : ℕ) (d : Row T) → at < length rows
+pub class_at : {T : Type 0} (rows : List (KindRow T)) (at : ℕ) (d : KindRow T) → at < length rows
     → (get_or rows at d).class ≡ get_or (map (λ row. row.class) rows) at Protocol
-class_at {T} rows at d within = sym (get_or-map (λ (row : Row T). row.class) rows at d Protocol within)
+class_at {T} rows at d within = sym (get_or-map (λ (row : KindRow T). row.class) rows at d Protocol within)
 
 -- one text more isn't the word
 pub none_more : {T : Type 0} (w : List ℕ) (f : T → List ℕ) (xs : List T) (i : ℕ) (d : T) → i < length xs → All (λ text. w ≢ text) (map f (take i xs)) → w ≢ f (get_or xs i d)
@@ -58,10 +58,10 @@ in_image : {T A : Type 0} (f : T → A) (xs : List T) (i : ℕ) (d : T) (a : A) 
 in_image f xs i d a within same = slice_get-map f xs i ∙ ap (option_map f) (slice_get-get_or xs i d within) ∙ ap Some same
 
 -- the row in a place has the word
-pub row_found : {T : Type 0} (read : T → List ℕ) (rows : List (Row T)) (i : ℕ) (d : Row T) (w : List ℕ) (kind : FaultKind) → i < length rows → (get_or rows i d).kind ≡ kind → w ≡ read (get_or rows i d).word
+pub row_found : {T : Type 0} (read : T → List ℕ) (rows : List (KindRow T)) (i : ℕ) (d : KindRow T) (w : List ℕ) (kind : FaultKind) → i < length rows → (get_or rows i d).kind ≡ kind → w ≡ read (get_or rows i d).word
     → (k : ℕ) × (slice_get (map (λ row. read row.word) rows) k ≡ Some w) × (slice_get (map (λ row. row.kind) rows) k ≡ Some kind)
 row_found {T} read rows i d w kind within same word =
-    (i, in_image (λ (row : Row T). read row.word) rows i d w within (sym word), in_image (λ (row : Row T). row.kind) rows i d kind within same)
+    (i, in_image (λ (row : KindRow T). read row.word) rows i d w within (sym word), in_image (λ (row : KindRow T). row.kind) rows i d kind within same)
 
 -- ---- a word is that of one fault
 

@@ -38,55 +38,55 @@ pub enum FaultKind {
 // What is reported of a fault. The type of its text is a parameter, since definitions can cite a constant of such a type, and
 // none with a reference of its own.
 #[derive(Clone, Copy)]
-struct Row<T> {
+struct KindRow<T> {
     kind: FaultKind,
     word: T,
     class: FaultClass,
 }
 
 // The faults, each in the place that its kind has among the kinds.
-const TABLE: [Row<&str>; 9] = [
-    Row {
+const TABLE: [KindRow<&str>; 9] = [
+    KindRow {
         kind: FaultKind::Connect,
         word: "connect",
         class: FaultClass::Network,
     },
-    Row {
+    KindRow {
         kind: FaultKind::Device,
         word: "device",
         class: FaultClass::Network,
     },
-    Row {
+    KindRow {
         kind: FaultKind::Ended,
         word: "ended",
         class: FaultClass::Network,
     },
-    Row {
+    KindRow {
         kind: FaultKind::Head,
         word: "head",
         class: FaultClass::Protocol,
     },
-    Row {
+    KindRow {
         kind: FaultKind::HeadLong,
         word: "head-long",
         class: FaultClass::Protocol,
     },
-    Row {
+    KindRow {
         kind: FaultKind::Length,
         word: "length",
         class: FaultClass::Protocol,
     },
-    Row {
+    KindRow {
         kind: FaultKind::Coding,
         word: "coding",
         class: FaultClass::Protocol,
     },
-    Row {
+    KindRow {
         kind: FaultKind::Chunk,
         word: "chunk",
         class: FaultClass::Protocol,
     },
-    Row {
+    KindRow {
         kind: FaultKind::BodyLong,
         word: "body-long",
         class: FaultClass::Protocol,
@@ -123,7 +123,7 @@ impl FaultKind {
 }
 
 // The fault of a row that has this word, if one of these rows has.
-fn kind_among(rows: &[Row<&str>], word: &str) -> Option<FaultKind>
+fn kind_among(rows: &[KindRow<&str>], word: &str) -> Option<FaultKind>
     ensures { MatchOption result (All (λ text. word.now ≢ text) (map (λ row. row.word.now) rows.now)) (λ kind. (k : ℕ) × (slice_get (map (λ row. row.word.now) rows.now) k ≡ Some word.now) × (slice_get (map (λ row. row.kind) rows.now) k ≡ Some kind)) }
 {
     for row in rows {

@@ -47,7 +47,7 @@ impl From<AllocError> for BeginFault {
 }
 
 // What is known of earlier runs' pages.
-struct Known {
+struct KnownPages {
     // The last of each.
     pages: MirrorIndex,
     // What the index says, if a run that was stopped says more.
@@ -56,10 +56,10 @@ struct Known {
     is_index_there: bool,
 }
 
-impl Known {
+impl KnownPages {
     // These pages, and none that were others before.
-    fn just(alloc: Global, pages: MirrorIndex, is_index_there: bool) -> Known {
-        Known {
+    fn just(alloc: Global, pages: MirrorIndex, is_index_there: bool) -> KnownPages {
+        KnownPages {
             pages,
             before: MirrorIndex::new(alloc),
             is_index_there,
@@ -69,7 +69,7 @@ impl Known {
 
 /// What a run was begun with.
 #[derive(Drop)]
-pub(crate) struct Begun {
+pub(crate) struct BegunRun {
     /// The folder of its pages.
     pub(crate) folder: String,
     upkeep: Upkeep,
@@ -87,7 +87,7 @@ pub(crate) struct Begun {
     is_index_there: bool,
 }
 
-impl Begun {
+impl BegunRun {
     /// Whether an index is kept.
     pub(crate) fn keeps_index(&self) -> bool {
         keeps_index(self.upkeep)
@@ -141,7 +141,7 @@ struct Put {
 pub struct IndexRun<F: Drop> {
     alloc: Global,
     // None before a run begins.
-    begun: Mutex<Option<Arc<Begun>>>,
+    begun: Mutex<Option<Arc<BegunRun>>>,
     // The pages of this run with the names that they have early, perhaps empty ones, if an index is kept.
     pages: Mutex<Vec<Entry>>,
     journal: Mutex<SharedJournal<F>>,
@@ -170,7 +170,7 @@ fn set<T: Drop>(held: &mut Option<T>, value: T) {
 }
 
 // What is known. If there is no room to share it nothing is.
-fn shared(held: &mut Option<Arc<Begun>>) -> Option<Arc<Begun>> {
+fn shared(held: &mut Option<Arc<BegunRun>>) -> Option<Arc<BegunRun>> {
     match held {
         Some(begun) => Arc::try_clone(begun).ok(),
         None => None,
@@ -241,7 +241,7 @@ fn put_names(
 }
 
 // The names of the files of gone pages, by those that a run put; none if no file is to be removed.
-fn gone_of(alloc: Global, begun: &Begun, names: &[String]) -> Result<Vec<String>, AllocError> {
+fn gone_of(alloc: Global, begun: &BegunRun, names: &[String]) -> Result<Vec<String>, AllocError> {
     if !begun.upkeep.deletes_gone {
         return Ok(Vec::new(alloc));
     }
@@ -381,23 +381,23 @@ impl<F: Drop> IndexRun<F> {
         folder: &str,
         upkeep: Upkeep,
         stopped: MirrorIndex,
-    ) -> Result<Known, AllocError> {
+    ) -> Result<KnownPages, AllocError> {
         if !keeps_index(upkeep) {
             let pages = if upkeep.continues {
                 stopped
             } else {
                 MirrorIndex::new(self.alloc)
             };
-            return Ok(Known::just(self.alloc, pages, false));
+            return Ok(KnownPages::just(self.alloc, pages, false));
         }
         match index_of(rt, self.alloc, failures, folder)? {
-            Some(index) if stopped.len() == 0 => Ok(Known::just(self.alloc, index, true)),
-            Some(index) => Ok(Known {
+            Some(index) if stopped.len() == 0 => Ok(KnownPages::just(self.alloc, index, true)),
+            Some(index) => Ok(KnownPages {
                 pages: joined(self.alloc, &index, &stopped)?,
                 before: index,
                 is_index_there: false,
             }),
-            None => Ok(Known::just(self.alloc, stopped, false)),
+            None => Ok(KnownPages::just(self.alloc, stopped, false)),
         }
     }
 
@@ -433,13 +433,13 @@ impl<F: Drop> IndexRun<F> {
         let upkeep = order.upkeep;
         let folder = String::from_str(self.alloc, order.prefix.as_str())?;
         let stopped = self.begin_journal(rt, failures, folder.as_str(), order)?;
-        let Known {
+        let KnownPages {
             pages,
             before,
             is_index_there,
         } = self.known_of(rt, failures, folder.as_str(), upkeep, stopped)?;
         let earlier = self.earlier_of(folder.as_str(), upkeep, pages)?;
-        let begun = Begun {
+        let begun = BegunRun {
             folder,
             upkeep,
             backs_up: order.backs_up,
@@ -465,7 +465,7 @@ impl<F: Drop> IndexRun<F> {
     }
 
     /// What the run was begun with, once it was. None if there is no room to share it.
-    pub(crate) fn begun<R: Wait>(&self, rt: &R) -> Option<Arc<Begun>> {
+    pub(crate) fn begun<R: Wait>(&self, rt: &R) -> Option<Arc<BegunRun>> {
         shared(&mut self.begun.lock(rt))
     }
 
@@ -566,7 +566,7 @@ impl<F: Drop> IndexRun<F> {
         rt: &R,
         failures: &SharedFailures,
         own: &str,
-        begun: &Begun,
+        begun: &BegunRun,
         put: &Put,
         is_whole: bool,
     ) -> io::Result<()>
@@ -599,7 +599,7 @@ impl<F: Drop> IndexRun<F> {
         &self,
         rt: &R,
         own: &str,
-        begun: &Begun,
+        begun: &BegunRun,
         put: &Put,
     ) -> io::Result<()>
     where

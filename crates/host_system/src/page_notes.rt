@@ -1,5 +1,5 @@
 //! What one worker notes of the pages that it kept, for the run's journal and its index.
-use crate::index_run::{Begun, IndexRun};
+use crate::index_run::{BegunRun, IndexRun};
 use crate::journal::JOURNAL;
 use crate::shared_failures::SharedFailures;
 use address::Address;
@@ -20,7 +20,7 @@ pub(crate) struct PageNotes<'a, F: Drop> {
     alloc: Global,
     index: &'a IndexRun<F>,
     // None if no run was begun.
-    begun: Option<Arc<Begun>>,
+    begun: Option<Arc<BegunRun>>,
     // The path of the last page's file.
     path: String,
     // Its line.

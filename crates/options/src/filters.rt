@@ -18,7 +18,7 @@ use std::alloc::Global;
 
 // The lists of an option and of its opposite.
 #[derive(Drop)]
-pub(crate) struct Lists<T> {
+pub(crate) struct FilterLists<T> {
     pub(crate) given: Elements<T>,
     pub(crate) excluded: Elements<T>,
 }
@@ -26,9 +26,9 @@ pub(crate) struct Lists<T> {
 /// The lists of names, directories and hosts, the expressions, and where links of pages are taken from.
 #[derive(Drop)]
 pub(crate) struct Filters {
-    pub(crate) names: Lists<Pattern>,
-    pub(crate) places: Lists<Directory>,
-    pub(crate) hosts: Lists<Domain>,
+    pub(crate) names: FilterLists<Pattern>,
+    pub(crate) places: FilterLists<Directory>,
+    pub(crate) hosts: FilterLists<Domain>,
     pub(crate) sought: Sought,
     pub(crate) rows: RowSet,
 }
@@ -40,19 +40,19 @@ fn read_lists<T: Element>(
     id: &str,
     opposite: &str,
     bad: LineFault,
-) -> Result<Lists<T>, LineFault>
+) -> Result<FilterLists<T>, LineFault>
     ensures { MatchResult result
         (λ l. both (list_of T.read_of id.now (rows_of (found_of matches.now))) (list_of T.read_of opposite.now (rows_of (found_of matches.now))) ≡ Some (l.given, l.excluded))
         (λ f. ((f ≡ bad) × (both (list_of T.read_of id.now (rows_of (found_of matches.now))) (list_of T.read_of opposite.now (rows_of (found_of matches.now))) ≡ None)) ⊎ (f ≡ fault.Memory)) }
 {
     let given = elements(alloc, matches, id, bad)?;
     let excluded = elements(alloc, matches, opposite, bad)?;
-    Ok(Lists { given, excluded })
+    Ok(FilterLists { given, excluded })
 }
 
 // The patterns of names.
 #[tactic(auto, unfolding(crate::specs::Order::patterns_of))]
-fn patterns(alloc: Global, matches: &ArgMatches) -> Result<Lists<Pattern>, LineFault>
+fn patterns(alloc: Global, matches: &ArgMatches) -> Result<FilterLists<Pattern>, LineFault>
     ensures { MatchResult result
         (λ l. patterns_of (rows_of (found_of matches.now)) ≡ Some (l.given, l.excluded))
         (λ f. ((f ≡ fault.Pattern) × (patterns_of (rows_of (found_of matches.now)) ≡ None)) ⊎ (f ≡ fault.Memory)) }
@@ -62,7 +62,7 @@ fn patterns(alloc: Global, matches: &ArgMatches) -> Result<Lists<Pattern>, LineF
 
 // The directories that are included and excluded.
 #[tactic(auto, unfolding(crate::specs::Order::directories_of))]
-fn directories(alloc: Global, matches: &ArgMatches) -> Result<Lists<Directory>, LineFault>
+fn directories(alloc: Global, matches: &ArgMatches) -> Result<FilterLists<Directory>, LineFault>
     ensures { MatchResult result
         (λ l. directories_of (rows_of (found_of matches.now)) ≡ Some (l.given, l.excluded))
         (λ f. ((f ≡ fault.Directory) × (directories_of (rows_of (found_of matches.now)) ≡ None)) ⊎ (f ≡ fault.Memory)) }
@@ -78,7 +78,7 @@ fn directories(alloc: Global, matches: &ArgMatches) -> Result<Lists<Directory>, 
 
 // The domains that are followed and excluded.
 #[tactic(auto, unfolding(crate::specs::Order::domains_of))]
-fn domains(alloc: Global, matches: &ArgMatches) -> Result<Lists<Domain>, LineFault>
+fn domains(alloc: Global, matches: &ArgMatches) -> Result<FilterLists<Domain>, LineFault>
     ensures { MatchResult result
         (λ l. domains_of (rows_of (found_of matches.now)) ≡ Some (l.given, l.excluded))
         (λ f. ((f ≡ fault.Domain) × (domains_of (rows_of (found_of matches.now)) ≡ None)) ⊎ (f ≡ fault.Memory)) }

@@ -2,7 +2,7 @@
 use Rattle.std.proofs.Common.{◌≡◌, ◌≤◌, ◌+◌, ℕ, Bool, true, false, List, [], ◌∷◌, max, bytes_eq, arith, ap, refl, subst, ⊎_elim}
 use Rattle.std.proofs.lemmas.Slice.Eq.{bytes_eq-Decides}
 use Rattle.address.specs.Address.{OriginText}
-use Rattle.pacing.specs.declared.turns.Turn.{Turn}
+use Rattle.pacing.specs.declared.turns.OriginTurn.{OriginTurn}
 use Rattle.pacing.specs.Turns.{AreCalled, AreCalledAlong, Books, Spaces, SparesOthers, TurnsValue, begun_of, least_of, shown, turn_of}
 
 -- the time of an origin doesn't fall, if it doesn't fall for the one that was called for
@@ -11,7 +11,7 @@ spared of other old new spares rises = go (bytes_eq of other) refl
   where
     go : (b : Bool) → bytes_eq of other ≡ b → shown (turn_of old other) ≤ turn_of new other
     go true is = subst (λ o. shown (turn_of old o) ≤ turn_of new o) ((bytes_eq-Decides of other).0 is) rises
-    go false is = let same : turn_of new other ≡ turn_of old other = ap (λ (t : Turn). t.next) (spares other is) in omega (arith, same)
+    go false is = let same : turn_of new other ≡ turn_of old other = ap (λ (t : OriginTurn). t.next) (spares other is) in omega (arith, same)
 
 -- no call lets an origin be requested from earlier
 pub rises : (other : OriginText) (old new : TurnsValue) → AreCalled old new → shown (turn_of old other) ≤ turn_of new other

@@ -2,14 +2,14 @@
 use Rattle.std.specs.Prelude.{◌≡◌, ◌⊎◌, ◌+◌, ◌-◌, ◌^◌, ℕ, false, List, [], ◌∷◌, bytes_eq, max, min, unwrap_or}
 use Rattle.std.specs.Map.{lookup}
 use Rattle.address.specs.Address.{OriginText}
-use Rattle.pacing.specs.declared.turns.Turn.{Turn}
+use Rattle.pacing.specs.declared.turns.OriginTurn.{OriginTurn}
 
 -- for each origin, when the last request to it began, the time before which no further one may, and the least pause between two
 abbrev pub TurnsValue : Type 0
-TurnsValue = List (OriginText × Turn)
+TurnsValue = List (OriginText × OriginTurn)
 
 -- what is known of the requests to an origin; at first none has begun, and one may
-abbrev pub known_of : TurnsValue → OriginText → Turn
+abbrev pub known_of : TurnsValue → OriginText → OriginTurn
 known_of turns of = unwrap_or (lookup (bytes_eq of) turns) (record { begun = 0; next = 0; least = 0 })
 
 -- the time before which no request to an origin may begin

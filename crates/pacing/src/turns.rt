@@ -11,14 +11,14 @@ use std::marker::Model;
 // What is known of the requests to an origin: when the last one began, the time before which no further one may begin, and the least
 // pause between the beginnings of two.
 #[derive(Clone, Copy)]
-struct Turn {
+struct OriginTurn {
     begun: u64,
     next: u64,
     least: u64,
 }
 
 // No request has begun, and one may.
-const FIRST_TURN: Turn = Turn {
+const FIRST_TURN: OriginTurn = OriginTurn {
     begun: 0,
     next: 0,
     least: 0,
@@ -28,7 +28,7 @@ const FIRST_TURN: Turn = Turn {
 /// pause between two. Times are nanoseconds since some beginning, which is the same for all.
 #[derive(Drop)]
 pub struct Turns {
-    by_origin: IndexMap<Origin, Turn>,
+    by_origin: IndexMap<Origin, OriginTurn>,
 }
 
 // Contracts see these times, by origin.
@@ -51,7 +51,7 @@ impl Turns {
     }
 
     // What is known of the requests to an origin.
-    fn turn_of(&self, of: &Origin) -> Turn
+    fn turn_of(&self, of: &Origin) -> OriginTurn
         ensures { result ≡ known_of self.now of.now }
     {
         match self.by_origin.get(of) {
@@ -61,7 +61,7 @@ impl Turns {
     }
 
     // From now on this is known of the requests to an origin.
-    fn set(&mut self, of: &Origin, turn: Turn) -> Result<(), AllocError>
+    fn set(&mut self, of: &Origin, turn: OriginTurn) -> Result<(), AllocError>
         ensures turn { OnOk result (known_of self.new of.now ≡ turn) }
         ensures others { (other : OriginText) → bytes_eq of.now other ≡ false → known_of self.new other ≡ known_of self.old other }
         ensures err { OnErr result (self.new ≡ self.old) }
@@ -83,7 +83,7 @@ impl Turns {
         let begins = now.max(turn.next);
         self.set(
             of,
-            Turn {
+            OriginTurn {
                 begun: begins,
                 next: begins.saturating_add(pause.max(turn.least)),
                 least: turn.least,
@@ -99,7 +99,7 @@ impl Turns {
     {
         let turn = self.turn_of(of);
         let next = until.max(turn.next);
-        self.set(of, Turn { next, ..turn })
+        self.set(of, OriginTurn { next, ..turn })
     }
 
     /// From the last request to an origin on, this time at least passes between the beginnings of two requests to it. The error is that
@@ -112,7 +112,7 @@ impl Turns {
         let next = turn.begun.saturating_add(delay).max(turn.next);
         self.set(
             of,
-            Turn {
+            OriginTurn {
                 begun: turn.begun,
                 next,
                 least: delay,

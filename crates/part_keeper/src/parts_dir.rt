@@ -34,7 +34,7 @@ struct Late {
 
 // What a run has of its directory.
 #[derive(Drop)]
-struct Made<F> {
+struct RunDir<F> {
     // Below which folder it is to be.
     folder: String,
     // None before the first body.
@@ -61,7 +61,7 @@ pub(crate) struct WorkerDir {
 /// body comes. Whoever drops it without [`PartsDir::remove`] leaves it to the next run in that folder, which removes it.
 pub struct PartsDir<F: Drop> {
     alloc: Global,
-    made: Mutex<Made<F>>,
+    made: Mutex<RunDir<F>>,
 }
 
 // By hand: who drops one proves a call, and nothing of what it holds.
@@ -103,7 +103,7 @@ where
 // These functions take `&mut` to what is under the lock, so that no early return of theirs releases it.
 
 // Makes the directory, unless it is there. Its path.
-fn make<R: Files>(rt: &R, alloc: Global, made: &mut Made<R::File>) -> io::Result<String>
+fn make<R: Files>(rt: &R, alloc: Global, made: &mut RunDir<R::File>) -> io::Result<String>
 where
     R::File: Lock,
 {
@@ -119,7 +119,7 @@ where
 }
 
 // A directory for one more worker.
-fn enter<R: Files>(rt: &R, alloc: Global, made: &mut Made<R::File>) -> io::Result<WorkerDir>
+fn enter<R: Files>(rt: &R, alloc: Global, made: &mut RunDir<R::File>) -> io::Result<WorkerDir>
 where
     R::File: Lock,
 {
@@ -132,19 +132,19 @@ where
 }
 
 // It is to be below this folder.
-fn set_folder<F: Drop>(made: &mut Made<F>, folder: &str) -> Result<(), AllocError> {
+fn set_folder<F: Drop>(made: &mut RunDir<F>, folder: &str) -> Result<(), AllocError> {
     made.folder.clear();
     made.folder
         .push_str(if folder.is_empty() { "." } else { folder })
 }
 
 // Below which folder it is to be.
-fn folder_of<F: Drop>(alloc: Global, made: &mut Made<F>) -> Result<String, AllocError> {
+fn folder_of<F: Drop>(alloc: Global, made: &mut RunDir<F>) -> Result<String, AllocError> {
     String::from_str(alloc, made.folder.as_str())
 }
 
 // Its path; empty if it wasn't made.
-fn path_of<F: Drop>(alloc: Global, made: &mut Made<F>) -> Result<String, AllocError> {
+fn path_of<F: Drop>(alloc: Global, made: &mut RunDir<F>) -> Result<String, AllocError> {
     match &made.own {
         Some(own) => String::from_str(alloc, own.path()),
         None => Ok(String::new(alloc)),
@@ -152,7 +152,7 @@ fn path_of<F: Drop>(alloc: Global, made: &mut Made<F>) -> Result<String, AllocEr
 }
 
 // Takes it away, and the folder if that was made for it and has nothing else.
-fn remove<R: Files>(rt: &R, alloc: Global, made: &mut Made<R::File>) {
+fn remove<R: Files>(rt: &R, alloc: Global, made: &mut RunDir<R::File>) {
     let Some(own) = mem::replace(&mut made.own, None) else {
         return;
     };
@@ -163,20 +163,20 @@ fn remove<R: Files>(rt: &R, alloc: Global, made: &mut Made<R::File>) {
 }
 
 // One more body is to be written later.
-fn push_late<F: Drop>(made: &mut Made<F>, late: Late) -> Result<(), AllocError> {
+fn push_late<F: Drop>(made: &mut RunDir<F>, late: Late) -> Result<(), AllocError> {
     made.late.push(late)?;
     Ok(())
 }
 
 // A part was lost for this reason. Gives its number among those.
-fn lose<F: Drop>(made: &mut Made<F>, error: io::Error) -> Result<usize, AllocError> {
+fn lose<F: Drop>(made: &mut RunDir<F>, error: io::Error) -> Result<usize, AllocError> {
     let number = made.lost.len();
     made.lost.push(Some(error))?;
     Ok(number)
 }
 
 // Why the part of this number was lost; each reason is returned once.
-fn take_reason<F: Drop>(made: &mut Made<F>, number: usize) -> Option<io::Error> {
+fn take_reason<F: Drop>(made: &mut RunDir<F>, number: usize) -> Option<io::Error> {
     match made.lost.get_mut(number) {
         Some(reason) => mem::replace(reason, None),
         None => None,
@@ -184,12 +184,12 @@ fn take_reason<F: Drop>(made: &mut Made<F>, number: usize) -> Option<io::Error> 
 }
 
 // Whether there are such bodies.
-fn has_late<F: Drop>(made: &mut Made<F>) -> bool {
+fn has_late<F: Drop>(made: &mut RunDir<F>) -> bool {
     !made.late.is_empty()
 }
 
 // These bodies, of which there are none from then on.
-fn take_late<F: Drop>(alloc: Global, made: &mut Made<F>) -> Vec<Late> {
+fn take_late<F: Drop>(alloc: Global, made: &mut RunDir<F>) -> Vec<Late> {
     mem::replace(&mut made.late, Vec::new(alloc))
 }
 
@@ -198,7 +198,7 @@ impl<F: Lock + Close + Drop> PartsDir<F> {
     pub fn new(alloc: Global) -> PartsDir<F> {
         PartsDir {
             alloc,
-            made: Mutex::new(Made {
+            made: Mutex::new(RunDir {
                 folder: String::new(alloc),
                 own: None,
                 is_folder_new: false,

@@ -14,7 +14,7 @@ use std::marker::Model;
 
 /// The rules of an origin: everything is allowed, nothing is, or what the rules of its robots file say.
 pub struct RuleSet {
-    kept: Kept,
+    kept: KeptRules,
 }
 
 // By hand: who drops one proves a call, and nothing of what it holds.
@@ -25,7 +25,7 @@ impl Drop for RuleSet {
 }
 
 #[derive(Drop)]
-enum Kept {
+enum KeptRules {
     All,
     Nothing,
     Rules(Vec<Rule>),
@@ -55,7 +55,7 @@ pub fn parse(alloc: Global, file: &[u8]) -> Result<RuleSet, AllocError>
     let stated = rules_for_us(alloc, &lines)?;
     let rules = kept_rules(alloc, stated)?;
     Ok(RuleSet {
-        kept: Kept::Rules(rules),
+        kept: KeptRules::Rules(rules),
     })
 }
 
@@ -68,7 +68,9 @@ impl RuleSet {
         ensures value { result ≡ record { closed = false; rules = [] } }
         ensures allows { (path : List ℕ) → IsAllowed result path }
     {
-        RuleSet { kept: Kept::All }
+        RuleSet {
+            kept: KeptRules::All,
+        }
     }
 
     /// The rules of an origin whose robots file can't be had: nothing is allowed (section 2.3.1.4).
@@ -77,7 +79,7 @@ impl RuleSet {
         ensures refuses { (path : List ℕ) → ¬ IsAllowed result path }
     {
         RuleSet {
-            kept: Kept::Nothing,
+            kept: KeptRules::Nothing,
         }
     }
 
@@ -119,9 +121,9 @@ impl RuleSet {
         ensures copy { IfOk result (λ copy. copy ≡ self.now) }
     {
         let kept = match &self.kept {
-            Kept::All => Kept::All,
-            Kept::Nothing => Kept::Nothing,
-            Kept::Rules(rules) => Kept::Rules(copies_of(alloc, rules)?),
+            KeptRules::All => KeptRules::All,
+            KeptRules::Nothing => KeptRules::Nothing,
+            KeptRules::Rules(rules) => KeptRules::Rules(copies_of(alloc, rules)?),
         };
         Ok(RuleSet { kept })
     }
@@ -129,15 +131,15 @@ impl RuleSet {
     fn is_closed(&self) -> bool
         ensures { result ≡ self.now.closed }
     {
-        matches!(self.kept, Kept::Nothing)
+        matches!(self.kept, KeptRules::Nothing)
     }
 
     fn rules(&self) -> &[Rule]
         ensures { result.now ≡ self.now.rules }
     {
         match &self.kept {
-            Kept::All | Kept::Nothing => &[],
-            Kept::Rules(rules) => rules,
+            KeptRules::All | KeptRules::Nothing => &[],
+            KeptRules::Rules(rules) => rules,
         }
     }
 }

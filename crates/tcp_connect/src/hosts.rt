@@ -55,12 +55,12 @@ impl Drop for Hosts {
 // The lock is held while it is looked up, so that a worker who needs the same host waits, and no other does.
 #[derive(Drop)]
 pub(crate) struct Host {
-    known: Mutex<Option<Known>>,
+    known: Mutex<Option<KnownHost>>,
 }
 
 // The addresses of a host, with no port, in the order in which they are to be tried; none if the look-up failed.
 #[derive(Drop)]
-pub(crate) struct Known {
+pub(crate) struct KnownHost {
     pub(crate) addresses: Vec<SocketAddr>,
     // The one that took a connection last. It is in front.
     pub(crate) took: Option<SocketAddr>,
@@ -203,18 +203,18 @@ pub(crate) fn has(servers: &[SocketAddr], server: SocketAddr) -> bool {
     servers.iter().any(|known| *known == server)
 }
 
-impl Known {
+impl KnownHost {
     // None of the addresses took a connection yet.
-    fn of(addresses: Vec<SocketAddr>, why: LossKind) -> Known {
-        Known {
+    fn of(addresses: Vec<SocketAddr>, why: LossKind) -> KnownHost {
+        KnownHost {
             addresses,
             took: None,
             why,
         }
     }
 
-    fn copied(&self) -> Result<Known, OpenFault> {
-        Ok(Known {
+    fn copied(&self) -> Result<KnownHost, OpenFault> {
+        Ok(KnownHost {
             addresses: self.addresses.clone()?,
             took: self.took,
             why: self.why,
@@ -230,7 +230,7 @@ impl Host {
         hosts: &Hosts,
         name: &str,
         limit: Option<Duration>,
-    ) -> Result<Known, OpenFault> {
+    ) -> Result<KnownHost, OpenFault> {
         known_among(rt, hosts, name, limit, &mut self.known.lock(rt))
     }
 
@@ -294,8 +294,8 @@ fn found_among(by_name: &IndexMap<String, Arc<Host>>, name: &str) -> Option<Arc<
 }
 
 // Forgets that a host has no address, and that servers at its addresses don't answer.
-fn forget_among(known: &mut Option<Known>, silent: &mut Vec<SocketAddr>) {
-    let Some(Known { addresses, .. }) = known else {
+fn forget_among(known: &mut Option<KnownHost>, silent: &mut Vec<SocketAddr>) {
+    let Some(KnownHost { addresses, .. }) = known else {
         return;
     };
     if addresses.is_empty() {
@@ -345,14 +345,14 @@ fn known_among<R: Net + Wait + Clock>(
     hosts: &Hosts,
     name: &str,
     limit: Option<Duration>,
-    known: &mut Option<Known>,
-) -> Result<Known, OpenFault> {
+    known: &mut Option<KnownHost>,
+) -> Result<KnownHost, OpenFault> {
     if let Some(known) = known {
         return known.copied();
     }
     let found = match hosts.look_up(rt, name, limit) {
-        Ok(addresses) => Known::of(addresses, LossKind::Unknown),
-        Err(OpenFault::Failed(why)) => Known::of(Vec::new(hosts.alloc), why),
+        Ok(addresses) => KnownHost::of(addresses, LossKind::Unknown),
+        Err(OpenFault::Failed(why)) => KnownHost::of(Vec::new(hosts.alloc), why),
         Err(fault) => return Err(fault),
     };
     let copy = found.copied()?;

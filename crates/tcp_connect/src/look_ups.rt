@@ -10,14 +10,14 @@ use std::thread::Threads;
 use std::time::{Clock, Duration};
 
 // What came of a look-up: the addresses of a host, or why there are none.
-type Found = Result<Vec<SocketAddr>, OpenFault>;
+type LookedUp = Result<Vec<SocketAddr>, OpenFault>;
 
 // A host that is looked up in another thread, and what came of it: none until then.
 #[derive(Drop)]
 struct LookUp {
     alloc: Global,
     name: String,
-    found: Mutex<Option<Found>>,
+    found: Mutex<Option<LookedUp>>,
     is_found: Condvar,
 }
 
@@ -39,13 +39,13 @@ impl LookUp {
     }
 
     // This came of it.
-    fn end<R: Wait>(&self, rt: &R, found: Found) {
+    fn end<R: Wait>(&self, rt: &R, found: LookedUp) {
         *self.found.lock(rt) = Some(found);
         self.is_found.notify_one();
     }
 
     // What comes of it within the limit. If nothing does, the resolver had no answer.
-    fn wait<R: Wait + Clock>(&self, rt: &R, limit: Duration) -> Found {
+    fn wait<R: Wait + Clock>(&self, rt: &R, limit: Duration) -> LookedUp {
         let found = self.found.lock(rt);
         let (mut found, _) = self
             .is_found
@@ -55,7 +55,7 @@ impl LookUp {
 }
 
 // What came of a look-up by now. It takes `&mut` to what is under the lock, so that no early return releases it.
-fn taken_of(found: &mut Option<Found>) -> Found {
+fn taken_of(found: &mut Option<LookedUp>) -> LookedUp {
     match found.take() {
         Some(found) => found,
         None => Err(OpenFault::Failed(LossKind::Resolver)),
@@ -97,7 +97,7 @@ impl Desk {
         alloc: Global,
         name: &str,
         limit: Duration,
-    ) -> Found {
+    ) -> LookedUp {
         let look_up = LookUp::of(alloc, name)?;
         want(&mut self.wanted.lock(rt), Arc::try_clone(&look_up)?)?;
         self.is_wanted.notify_one();

@@ -8,7 +8,7 @@ ghost use Rattle.response_reader.specs.Wire.{CountsFault, counted};
 ghost use Rattle.connect.specs.Connects.{CountsRefusal, refused_by};
 
 use crate::connection::Connection;
-use crate::hosts::{Host, Hosts, Known, has};
+use crate::hosts::{Host, Hosts, KnownHost, has};
 use crate::kept::{KeptConnections, MOST, PlaceInUse, Waiting, is_fresh};
 use crate::lacks::{Lack, OpenFault, Patience, lack_of, loss_of};
 use crate::turn::{hold_turn, space_turns, wait_turn};
@@ -31,7 +31,7 @@ const CLOSE_TIMEOUT: u64 = 100;
 
 // What a run keeps of connections, and how many may be open to a server.
 #[derive(Drop)]
-struct Keeping<'a, S: Drop> {
+struct Reuse<'a, S: Drop> {
     kept: &'a KeptConnections<S>,
     most: usize,
 }
@@ -49,7 +49,7 @@ pub struct TcpConnect<'a, R: Net + Wait + Clock> {
     // The servers that were late to close the last connection that this worker had to them.
     late: Vec<SocketAddr>,
     // Where connections are kept; none if each ends after its exchange.
-    keeping: Option<Keeping<'a, R::Stream>>,
+    keeping: Option<Reuse<'a, R::Stream>>,
     // The proxies that are asked in place of servers.
     proxies: Proxies,
     manner: Manner,
@@ -115,7 +115,7 @@ fn stream_to<R: Net + Wait>(
     rt: &R,
     hosts: &Hosts,
     manner: &Manner,
-    known: &Known,
+    known: &KnownHost,
     port: u16,
 ) -> Result<(R::Stream, SocketAddr), OpenFault> {
     let mut loss = None;
@@ -270,7 +270,7 @@ impl<'a, R: Net + Wait + Clock> TcpConnect<'a, R> {
     {
         let most = most as usize;
         TcpConnect {
-            keeping: Some(Keeping { kept, most }),
+            keeping: Some(Reuse { kept, most }),
             ..self
         }
     }
@@ -326,7 +326,7 @@ impl<'a, R: Net + Wait + Clock> TcpConnect<'a, R> {
 
     // A place for a new connection to an origin, if connections are kept. One that waited may have to go for it.
     fn enter(&self, of: &Origin) -> Result<Option<PlaceInUse<'a, R::Stream>>, AllocError> {
-        let Some(Keeping { kept, most }) = &self.keeping else {
+        let Some(Reuse { kept, most }) = &self.keeping else {
             return Ok(None);
         };
         let (place, ended) = kept.enter(self.rt, of, *most)?;

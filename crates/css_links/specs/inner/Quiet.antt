@@ -4,7 +4,7 @@ use Rattle.css_links.specs.inner.Spans.{until, from, ends_span}
 use Rattle.css_links.specs.declared.span.Span.TheVariants as span
 use Rattle.css_links.specs.declared.place.Lead.{Lead}
 use Rattle.css_links.specs.declared.place.Lead.TheVariants as lead
-use Rattle.css_links.specs.declared.place.Part.TheVariants.{Word}
+use Rattle.css_links.specs.declared.place.SheetPart.TheVariants.{Word}
 use Rattle.css_links.specs.declared.place.Place.{Place}
 use Rattle.css_links.specs.declared.place.Place.TheVariants.{Between, Inside}
 

@@ -7,7 +7,7 @@ use Rattle.regex_nfa.specs.declared.nfa.Nfa.{Nfa}
 use Rattle.regex_nfa.specs.declared.state.State.TheVariants as kinds
 use Rattle.regex_nfa.specs.Run.{state_of}
 use Rattle.expressions.specs.inner.Accepting.{AreFlags, AreMarks}
-use Rattle.expressions.specs.declared.table.Row.{Row}
+use Rattle.expressions.specs.declared.table.SetRow.{SetRow}
 use Rattle.expressions.specs.declared.table.Table.{Table}
 
 -- the look is at a text's start or end
@@ -36,13 +36,13 @@ abbrev pub IsCell : Nfa → List (Vec Bool Global) → ℕ → ℕ → ℕ → T
 IsCell nfa sets from byte number = (number < length sets) × AreMarks nfa (0 ∷ byte ∷ []) 1 (set_at sets from) (set_at sets number)
 
 -- the row of the set with this number; what is before a place at which a match begins isn't asked
-pub record IsRow (nfa : Nfa) (sets : List (Vec Bool Global)) (from : ℕ) (row : Row) : Type 0 where
+pub record IsRow (nfa : Nfa) (sets : List (Vec Bool Global)) (from : ℕ) (row : SetRow) : Type 0 where
   pub begins : row.begins ≡ slice_index_or (set_at sets from) nfa.start false
   pub cells : row.begins ≡ false → (byte : ℕ) → byte < 256 → IsCell nfa sets from byte (slice_index row.before byte)
 
 -- the rows of as many sets
-abbrev pub AreRows : Nfa → List (Vec Bool Global) → List Row → Type 0
-AreRows nfa sets rows = (number : ℕ) (row : Row) → number < length rows → IsRow nfa sets number (slice_index_or rows number row)
+abbrev pub AreRows : Nfa → List (Vec Bool Global) → List SetRow → Type 0
+AreRows nfa sets rows = (number : ℕ) (row : SetRow) → number < length rows → IsRow nfa sets number (slice_index_or rows number row)
 
 -- the first set is that of the end of each text that has a byte
 abbrev pub IsEndSet : Nfa → List Bool → Type 0

@@ -73,7 +73,7 @@ fn new_room(alloc: Global, len: u64) -> io::Result<Vec<u8>> {
 
 // The result of reading a file that is to have so many bytes.
 #[derive(Clone, Copy)]
-enum Reading {
+enum FileReading {
     // It has them, and was changed at this time, if the system says it.
     Whole(Option<SystemTime>),
     // It hasn't: another run put its own file there meanwhile, and changes it.
@@ -89,20 +89,20 @@ fn time_of<F: OpenFile>(file: &F) -> Option<SystemTime> {
 }
 
 // Reads the file at a path into this room, which it is to fill.
-fn read_body<R: Files>(rt: &R, path: &str, body: &mut [u8]) -> io::Result<Reading> {
+fn read_body<R: Files>(rt: &R, path: &str, body: &mut [u8]) -> io::Result<FileReading> {
     let mut file = File::open(rt, path)?;
     match file.read_exact(body) {
         Ok(()) => {}
-        Err(error) if error.kind() == ErrorKind::UnexpectedEof => return Ok(Reading::Other),
+        Err(error) if error.kind() == ErrorKind::UnexpectedEof => return Ok(FileReading::Other),
         Err(error) => return Err(error),
     }
     let mut more = [0u8; 1];
     match file.read_exact(&mut more) {
         Err(error) if error.kind() == ErrorKind::UnexpectedEof => {
-            Ok(Reading::Whole(time_of(&file)))
+            Ok(FileReading::Whole(time_of(&file)))
         }
         Err(error) => Err(error),
-        Ok(()) => Ok(Reading::Other),
+        Ok(()) => Ok(FileReading::Other),
     }
 }
 
@@ -230,7 +230,7 @@ impl FileChange {
     {
         look_for_file(rt, self.path.as_str())?;
         let mut body = new_room(alloc, self.len)?;
-        let Reading::Whole(modified) = read_body(rt, self.path.as_str(), body.as_mut_slice())?
+        let FileReading::Whole(modified) = read_body(rt, self.path.as_str(), body.as_mut_slice())?
         else {
             return Ok(());
         };
