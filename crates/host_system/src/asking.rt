@@ -17,7 +17,7 @@ use tcp_fetcher::OverTcp;
 // It has a type of its own, like what it asks, since a call at a type that names all these parts costs its proof more than
 // the checker allows.
 pub struct Asking<'a, R: Net + Wait + Files + Clock + Eprint> {
-    pub(crate) inner: Journaled<OverTcp<'a, R>, Pen<'a, R, R>>,
+    pub(crate) inner: Journaled<OverTcp<'a, R>, Pen<'a, R>>,
     pub(crate) rt: &'a R,
     pub(crate) failures: &'a SharedFailures,
 }

@@ -400,7 +400,7 @@ where
 
 /// The record of a run. Before it is written the connections that wait are ended, too.
 pub struct Saved<'a, R: Net + Wait + Eprint + Files> {
-    pub(crate) inner: SavedFile<'a, R, R>,
+    pub(crate) inner: SavedFile<'a, R>,
     pub(crate) rt: &'a R,
     pub(crate) kept: &'a KeptConnections<R::Stream>,
     pub(crate) failures: &'a SharedFailures,

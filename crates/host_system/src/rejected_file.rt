@@ -20,23 +20,20 @@ struct PathFile<F: Write + Drop> {
 
 /// The file of the log, if the words name one, and what keeps why it couldn't be written.
 #[derive(Drop)]
-pub struct RejectedFile<'a, R: Wait, F: Write + Drop> {
+pub struct RejectedFile<'a, R: Wait + Files> {
     rt: &'a R,
     failures: &'a SharedFailures,
-    named: Option<PathFile<F>>,
+    named: Option<PathFile<R::File>>,
     // Whether the log couldn't be written.
     is_lost: bool,
 }
 
 // The file at a path, begun afresh, if there is one.
-fn named_at<D: Files>(
-    disk: &D,
-    path: Option<String>,
-) -> Result<Option<PathFile<D::File>>, Unopened> {
+fn named_at<R: Files>(rt: &R, path: Option<String>) -> Result<Option<PathFile<R::File>>, Unopened> {
     let Some(path) = path else {
         return Ok(None);
     };
-    match open_file(disk, path.as_str(), false) {
+    match open_file(rt, path.as_str(), false) {
         Ok(file) => Ok(Some(PathFile { path, file })),
         Err(error) => Err(Unopened { path, error }),
     }
@@ -49,17 +46,16 @@ struct Unopened {
     error: Error,
 }
 
-impl<'a, R: Wait, F: Write + Drop> RejectedFile<'a, R, F> {
+impl<'a, R: Wait + Files> RejectedFile<'a, R> {
     /// Opens the file at this path, if there is one, and begins it afresh. If it can't be opened its line is written there, why is kept
     /// for a person, and there is nothing.
-    pub fn open<D: Files<File = F>, W: Write>(
+    pub fn open<W: Write>(
         rt: &'a R,
-        disk: &D,
         failures: &'a SharedFailures,
         path: Option<String>,
         writer: &mut W,
-    ) -> Option<RejectedFile<'a, R, F>> {
-        match named_at(disk, path) {
+    ) -> Option<RejectedFile<'a, R>> {
+        match named_at(rt, path) {
             Ok(named) => Some(RejectedFile {
                 rt,
                 failures,
@@ -109,7 +105,7 @@ impl<'a, R: Wait, F: Write + Drop> RejectedFile<'a, R, F> {
     }
 }
 
-impl<'a, R: Wait, F: Write + Drop> RejectedLog for RejectedFile<'a, R, F> {
+impl<'a, R: Wait + Files> RejectedLog for RejectedFile<'a, R> {
     ghost use Rattle.std.specs.Prelude.{None};
 
     ghost contents = { λ _. None };

@@ -260,10 +260,7 @@ where
     }
 
     fn hold(&self, path: &str, resumed: Option<&str>) -> Result<(), HoldFault> {
-        match self
-            .saving
-            .hold(self.rt, self.rt, self.alloc, path, resumed)
-        {
+        match self.saving.hold(self.rt, self.alloc, path, resumed) {
             Ok(()) => Ok(()),
             Err(SaveFault::Refused) => Err(HoldFault::Refused),
             Err(SaveFault::Memory) => Err(HoldFault::Memory),
@@ -276,12 +273,12 @@ where
         path: &str,
         limit: usize,
     ) -> Result<Vec<u8>, ReadInputFault> {
-        self.saving.read(self.rt, self.rt, alloc, path, limit)
+        self.saving.read(self.rt, alloc, path, limit)
     }
 
     fn record(&self, path: &str) -> Result<Saved<'a, R>, AllocError> {
         let journal = self.saving.journal();
-        let inner = SavedFile::new(self.rt, self.rt, self.alloc, path, journal)?;
+        let inner = SavedFile::new(self.rt, self.alloc, path, journal)?;
         Ok(Saved {
             inner,
             rt: self.rt,

@@ -13,12 +13,12 @@ const PAUSE: u64 = 1000;
 
 /// A journal on a disk that this run alone adds to, with all its workers.
 #[derive(Drop)]
-pub struct DiskJournal<D: Files> {
+pub struct DiskJournal<R: Files> {
     path: String,
-    tail: Mutex<Tail<D::File>>,
+    tail: Mutex<Tail<R::File>>,
     // The same open file, by which what was added is brought onto the disk while others add more; none if there is no second
     // handle of it.
-    synced: Option<D::File>,
+    synced: Option<R::File>,
     // How many bytes were there before this run added any.
     since: u64,
     // Whether that is no entry.
@@ -64,24 +64,22 @@ fn is_whole<F: Write + OpenFile + Drop>(tail: &mut Tail<F>, most: u64) -> io::Re
 }
 
 // Brings all of it onto the disk, and gives it another name. Nothing is added from here on.
-fn rename<D: Files>(tail: &mut Tail<D::File>, disk: &D, from: &str, to: &str) -> io::Result<bool> {
-    if !is_at(disk, &tail.file, from)? {
+fn rename<R: Files>(tail: &mut Tail<R::File>, rt: &R, from: &str, to: &str) -> io::Result<bool> {
+    if !is_at(rt, &tail.file, from)? {
         return Ok(false);
     }
     tail.file.sync_all()?;
-    disk.rename(from, to)?;
+    rt.rename(from, to)?;
     tail.is_open = false;
     Ok(true)
 }
 
-impl<D: Files> DiskJournal<D> {
+impl<R: Files> DiskJournal<R> {
     // With this end, at this path.
-    pub(crate) fn new<R: Clock>(
-        rt: &R,
-        path: String,
-        tail: Tail<D::File>,
-        is_new: bool,
-    ) -> DiskJournal<D> {
+    pub(crate) fn new(rt: &R, path: String, tail: Tail<R::File>, is_new: bool) -> DiskJournal<R>
+    where
+        R: Clock,
+    {
         let since = tail.whole;
         let synced = tail.file.try_clone().ok();
         DiskJournal {
@@ -97,17 +95,23 @@ impl<D: Files> DiskJournal<D> {
     }
 
     /// Whether entries are still added.
-    pub fn is_open<R: Wait>(&self, rt: &R) -> bool {
+    pub fn is_open(&self, rt: &R) -> bool
+    where
+        R: Wait,
+    {
         self.tail.lock(rt).is_open
     }
 
     // Adds an entry, and returns whether it is there whole. The first that isn't is reported to a person.
-    pub(crate) fn append<R: Wait + Clock + Eprint>(&self, rt: &R, entry: &[u8]) -> bool {
+    pub(crate) fn append(&self, rt: &R, entry: &[u8]) -> bool
+    where
+        R: Wait + Clock + Eprint,
+    {
         // The lock is released here: reporting, and bringing entries onto the disk, keeps nobody from adding more.
         let added = append_to(&mut self.tail.lock(rt), entry);
         match added {
             Added::Whole => {
-                self.sync_where_due(rt);
+                self.sync_if_due(rt);
                 true
             }
             Added::Failed => {
@@ -119,25 +123,30 @@ impl<D: Files> DiskJournal<D> {
     }
 
     // Copies the entries that this run added.
-    pub(crate) fn copy_added<R: Wait, W: Write>(&self, rt: &R, to: &mut W) -> io::Result<()> {
+    pub(crate) fn copy_added<W: Write>(&self, rt: &R, to: &mut W) -> io::Result<()>
+    where
+        R: Wait,
+    {
         copy_behind(&mut self.tail.lock(rt), self.since, to)
     }
 
     // Makes it the file of a record, if it is one that has nothing but what this run added after this many bytes, those of the
     // first line, and is no longer than that. Returns whether it is.
-    pub(crate) fn become_record<R: Wait>(
+    pub(crate) fn become_record(
         &self,
         rt: &R,
-        disk: &D,
         path: &str,
         first: u64,
         most: u64,
-    ) -> io::Result<bool> {
+    ) -> io::Result<bool>
+    where
+        R: Wait,
+    {
         if self.since != first || !is_whole(&mut self.tail.lock(rt), most)? {
             return Ok(false);
         }
         let from = self.path.as_str();
-        let is_record = rename(&mut self.tail.lock(rt), disk, from, path)?;
+        let is_record = rename(&mut self.tail.lock(rt), rt, from, path)?;
         if is_record {
             self.is_removed.store(true, Ordering::SeqCst);
         }
@@ -145,7 +154,10 @@ impl<D: Files> DiskJournal<D> {
     }
 
     // Brings what was added onto the disk, if that is due and this worker is the one to do it.
-    fn sync_where_due<R: Wait + Clock + Eprint>(&self, rt: &R) {
+    fn sync_if_due(&self, rt: &R)
+    where
+        R: Wait + Clock + Eprint,
+    {
         let (Some(start), Some(synced)) = (&self.start, &self.synced) else {
             return;
         };
@@ -171,22 +183,28 @@ impl<D: Files> DiskJournal<D> {
     }
 
     // Removes it. Later calls change nothing: another run's may be there then.
-    pub(crate) fn remove(&self, disk: &D) {
+    pub(crate) fn remove(&self, rt: &R) {
         if !self.is_removed.swap(true, Ordering::SeqCst) {
-            let _ = disk.remove_file(self.path.as_str());
+            let _ = rt.remove_file(self.path.as_str());
         }
     }
 
     // Removes it if it has no entry.
-    pub(crate) fn remove_where_empty<R: Wait>(&self, rt: &R, disk: &D) {
+    pub(crate) fn remove_if_empty(&self, rt: &R)
+    where
+        R: Wait,
+    {
         let whole = self.tail.lock(rt).whole;
         if self.is_new && whole == self.since {
-            self.remove(disk);
+            self.remove(rt);
         }
     }
 
     // Reports to a person that what comes from here on isn't in the journal.
-    pub(crate) fn report_closed<R: Eprint>(&self, rt: &R) {
+    pub(crate) fn report_closed(&self, rt: &R)
+    where
+        R: Eprint,
+    {
         let path = self.path.as_str();
         let _ = eprintln!(rt;
             "{path}: can't be written any more; further answers are kept in memory, and lost if this run is killed"

@@ -13,15 +13,15 @@ use streams::Lock;
 
 /// A journal on a disk that this run holds, and no other: its bytes can be read, and then entries be added.
 #[derive(Drop)]
-pub(crate) struct HeldJournal<D: Files> {
+pub(crate) struct HeldJournal<R: Files> {
     path: String,
-    file: D::File,
+    file: R::File,
     is_new: bool,
 }
 
 // Whether a file is at a path, or nothing. What is neither is refused: a link isn't followed, and nobody waits at a pipe.
-pub(crate) fn look_for_file<D: Files>(disk: &D, path: &str) -> io::Result<bool> {
-    match disk.symlink_metadata(path) {
+pub(crate) fn look_for_file<R: Files>(rt: &R, path: &str) -> io::Result<bool> {
+    match rt.symlink_metadata(path) {
         Ok(found) if found.is_file() => Ok(true),
         Ok(_) => Err(Error::from(ErrorKind::AlreadyExists)),
         Err(e) if e.kind() == ErrorKind::NotFound => Ok(false),
@@ -30,9 +30,9 @@ pub(crate) fn look_for_file<D: Files>(disk: &D, path: &str) -> io::Result<bool> 
 }
 
 // Whether the open file is still at the path: a run that is done removes the journal that it holds.
-pub(crate) fn is_at<D: Files>(disk: &D, file: &D::File, path: &str) -> io::Result<bool> {
+pub(crate) fn is_at<R: Files>(rt: &R, file: &R::File, path: &str) -> io::Result<bool> {
     let open = file.metadata()?;
-    match disk.symlink_metadata(path) {
+    match rt.symlink_metadata(path) {
         Ok(found) => Ok(found.ino() == open.ino() && found.dev() == open.dev()),
         Err(e) if e.kind() == ErrorKind::NotFound => Ok(false),
         Err(e) => Err(e),
@@ -62,25 +62,25 @@ fn cut<F: Write + OpenFile>(
     write_first_line(alloc, file)
 }
 
-impl<D: Files> HeldJournal<D> {
+impl<R: Files> HeldJournal<R> {
     /// Opens `SAVED.journal` beside the file of a record, and holds it; it is made if nothing is there, and what it has
     /// stays.
     pub(crate) fn open(
-        disk: &D,
+        rt: &R,
         alloc: Global,
         saved: &str,
-    ) -> Result<HeldJournal<D>, OpenJournalFault>
+    ) -> Result<HeldJournal<R>, OpenJournalFault>
     where
-        D::File: Lock,
+        R::File: Lock,
     {
         let path = format!(in alloc; "{saved}.journal")?;
-        let is_new = !look_for_file(disk, path.as_str())?;
+        let is_new = !look_for_file(rt, path.as_str())?;
         let file = File::options()
             .read(true)
             .append(true)
             .create(true)
-            .open(disk, path.as_str())?;
-        if !file.hold()? || !is_at(disk, &file, path.as_str())? {
+            .open(rt, path.as_str())?;
+        if !file.hold()? || !is_at(rt, &file, path.as_str())? {
             return Err(OpenJournalFault::Held);
         }
         Ok(HeldJournal { path, file, is_new })
@@ -97,13 +97,16 @@ impl<D: Files> HeldJournal<D> {
     }
 
     /// The file, to be read from its beginning.
-    pub(crate) fn file(&mut self) -> &mut D::File {
+    pub(crate) fn file(&mut self) -> &mut R::File {
         &mut self.file
     }
 
     /// From here on entries are added after these bytes, those of a whole record or none; what else is there is dropped. If
     /// that fails, the journal is held all the same, and takes no entry.
-    pub(crate) fn begin<R: Clock>(self, rt: &R, alloc: Global, whole: u64) -> DiskJournal<D> {
+    pub(crate) fn begin(self, rt: &R, alloc: Global, whole: u64) -> DiskJournal<R>
+    where
+        R: Clock,
+    {
         let HeldJournal {
             path,
             mut file,

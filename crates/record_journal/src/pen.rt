@@ -9,19 +9,19 @@ use std::time::Clock;
 
 /// Adds one worker's entries to the journal of the run, if there is one by then. Its contents aren't known: others add too.
 #[derive(Drop)]
-pub struct Pen<'a, R: Wait + Clock + Eprint, D: Files> {
+pub struct Pen<'a, R: Wait + Clock + Eprint + Files> {
     rt: &'a R,
-    saving: &'a Saving<D>,
+    saving: &'a Saving<R>,
 }
 
-impl<'a, R: Wait + Clock + Eprint, D: Files> Pen<'a, R, D> {
+impl<'a, R: Wait + Clock + Eprint + Files> Pen<'a, R> {
     /// Adds to the journal that is held here. Takes no memory.
-    pub fn new(rt: &'a R, saving: &'a Saving<D>) -> Pen<'a, R, D> {
+    pub fn new(rt: &'a R, saving: &'a Saving<R>) -> Pen<'a, R> {
         Pen { rt, saving }
     }
 }
 
-impl<'a, R: Wait + Clock + Eprint, D: Files> Journal for Pen<'a, R, D> {
+impl<'a, R: Wait + Clock + Eprint + Files> Journal for Pen<'a, R> {
     ghost contents = { λ _. None };
 
     fn append(&mut self, entry: &[u8]) -> bool {

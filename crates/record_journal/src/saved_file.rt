@@ -17,23 +17,21 @@ use streams::Close;
 /// one at any moment, and an answer is in the file or in the journal. If a call fails, the old file and the journal stay.
 ///
 /// A link, a directory or a device isn't replaced.
-pub struct SavedFile<'a, R: Wait + Eprint, D: Files> {
+pub struct SavedFile<'a, R: Wait + Eprint + Files> {
     rt: &'a R,
-    disk: &'a D,
     path: String,
     part: String,
-    file: Option<D::File>,
+    file: Option<R::File>,
     // Whether a write failed for good.
     is_lost: bool,
-    journal: Option<&'a DiskJournal<D>>,
+    journal: Option<&'a DiskJournal<R>>,
 }
 
 // Written by hand: a user that drops one proves a call, and nothing about its fields.
-impl<'a, R: Wait + Eprint, D: Files> Drop for SavedFile<'a, R, D> {
+impl<'a, R: Wait + Eprint + Files> Drop for SavedFile<'a, R> {
     fn drop(self) {
         let SavedFile {
             rt: _rt,
-            disk: _disk,
             path: _path,
             part: _part,
             file: _file,
@@ -44,27 +42,23 @@ impl<'a, R: Wait + Eprint, D: Files> Drop for SavedFile<'a, R, D> {
 }
 
 // Makes a new file. What a killed run left there is taken away first; a link isn't followed.
-fn create_new<D: Files>(disk: &D, path: &str) -> io::Result<D::File> {
-    match File::create_new(disk, path) {
+fn create_new<R: Files>(rt: &R, path: &str) -> io::Result<R::File> {
+    match File::create_new(rt, path) {
         Err(e) if e.kind() == ErrorKind::AlreadyExists => {
-            disk.remove_file(path)?;
-            File::create_new(disk, path)
+            rt.remove_file(path)?;
+            File::create_new(rt, path)
         }
         made => made,
     }
 }
 
 // Whether a record's file can be made at a path: its part is made, and taken away. One that is there was made by a run.
-pub(crate) fn can_be_made<D: Files>(
-    disk: &D,
-    alloc: Global,
-    path: &str,
-) -> Result<bool, AllocError> {
+pub(crate) fn can_be_made<R: Files>(rt: &R, alloc: Global, path: &str) -> Result<bool, AllocError> {
     let part = format!(in alloc; "{path}.part")?;
-    match File::create_new(disk, part.as_str()) {
+    match File::create_new(rt, part.as_str()) {
         Ok(file) => {
             drop(file);
-            let _ = disk.remove_file(part.as_str());
+            let _ = rt.remove_file(part.as_str());
             Ok(true)
         }
         Err(e) => Ok(e.kind() == ErrorKind::AlreadyExists),
@@ -72,13 +66,13 @@ pub(crate) fn can_be_made<D: Files>(
 }
 
 // The file that is being made, which is made now if there is none.
-fn opened<'a, D: Files>(
-    disk: &D,
+fn opened<'a, R: Files>(
+    rt: &R,
     path: &str,
-    file: &'a mut Option<D::File>,
-) -> io::Result<&'a mut D::File> {
+    file: &'a mut Option<R::File>,
+) -> io::Result<&'a mut R::File> {
     if file.is_none() {
-        *file = Some(create_new(disk, path)?);
+        *file = Some(create_new(rt, path)?);
     }
     match file {
         Some(file) => Ok(file),
@@ -94,22 +88,20 @@ fn finish<F: OpenFile + Close + Drop>(file: F) -> io::Result<u64> {
     Ok(len)
 }
 
-impl<'a, R: Wait + Eprint, D: Files> SavedFile<'a, R, D>
+impl<'a, R: Wait + Eprint + Files> SavedFile<'a, R>
 where
-    D::File: Close,
+    R::File: Close,
 {
     /// The file at this path, with the run's journal beside it, if there is one. Nothing is made before the first write. Fails
     /// only if memory runs out.
     pub fn new(
         rt: &'a R,
-        disk: &'a D,
         alloc: Global,
         path: &str,
-        journal: Option<&'a DiskJournal<D>>,
-    ) -> Result<SavedFile<'a, R, D>, AllocError> {
+        journal: Option<&'a DiskJournal<R>>,
+    ) -> Result<SavedFile<'a, R>, AllocError> {
         Ok(SavedFile {
             rt,
-            disk,
             path: String::from_str(alloc, path)?,
             part: format!(in alloc; "{path}.part")?,
             file: None,
@@ -133,14 +125,14 @@ where
         }
         self.is_lost = true;
         self.file = None;
-        let _ = self.disk.remove_file(self.part.as_str());
+        let _ = self.rt.remove_file(self.part.as_str());
     }
 
     // Puts the part in place, or the journal if nothing else is saved.
-    fn put(&self, file: D::File) -> io::Result<()> {
-        let _ = look_for_file(self.disk, self.path.as_str())?;
+    fn put(&self, file: R::File) -> io::Result<()> {
+        let _ = look_for_file(self.rt, self.path.as_str())?;
         if file.metadata()?.len() == SECOND_VERSION_LINE.len() as u64 && self.is_journal_put()? {
-            let _ = self.disk.remove_file(self.part.as_str());
+            let _ = self.rt.remove_file(self.part.as_str());
             return Ok(());
         }
         self.put_part(file)
@@ -151,7 +143,6 @@ where
         match self.journal {
             Some(journal) => journal.become_record(
                 self.rt,
-                self.disk,
                 self.path.as_str(),
                 SECOND_VERSION_LINE.len() as u64,
                 MAX_RECORD as u64,
@@ -161,13 +152,13 @@ where
     }
 
     // Adds the journal's entries, and gives the part the file's name.
-    fn put_part(&self, mut file: D::File) -> io::Result<()> {
+    fn put_part(&self, mut file: R::File) -> io::Result<()> {
         if let Some(journal) = self.journal {
             journal.copy_added(self.rt, &mut file)?;
         }
         let len = finish(file)?;
-        let _ = look_for_file(self.disk, self.path.as_str())?;
-        self.disk.rename(self.part.as_str(), self.path.as_str())?;
+        let _ = look_for_file(self.rt, self.path.as_str())?;
+        self.rt.rename(self.part.as_str(), self.path.as_str())?;
         if len > MAX_RECORD as u64 {
             self.report_long(len);
         } else {
@@ -179,7 +170,7 @@ where
     // Removes the journal: all that it has is in the file. If it stays, a later run takes from it what the file has too.
     fn drop_journal(&self) {
         if let Some(journal) = self.journal {
-            journal.remove(self.disk);
+            journal.remove(self.rt);
         }
     }
 
@@ -192,15 +183,15 @@ where
     }
 }
 
-impl<'a, R: Wait + Eprint, D: Files> Write for SavedFile<'a, R, D>
+impl<'a, R: Wait + Eprint + Files> Write for SavedFile<'a, R>
 where
-    D::File: Close,
+    R::File: Close,
 {
     ghost contents = { λ _. None };
 
     fn write(&mut self, bytes: &[u8]) -> io::Result<usize> {
         self.writable()?;
-        let written = opened(self.disk, self.part.as_str(), &mut self.file)?.write(bytes);
+        let written = opened(self.rt, self.part.as_str(), &mut self.file)?.write(bytes);
         if let Err(e) = &written {
             self.give_up(e.kind());
         }
@@ -209,7 +200,7 @@ where
 
     fn write_all(&mut self, bytes: &[u8]) -> io::Result<()> {
         self.writable()?;
-        let written = opened(self.disk, self.part.as_str(), &mut self.file)?.write_all(bytes);
+        let written = opened(self.rt, self.part.as_str(), &mut self.file)?.write_all(bytes);
         if let Err(e) = &written {
             self.give_up(e.kind());
         }
@@ -224,7 +215,7 @@ where
         };
         let put = self.put(file);
         if put.is_err() {
-            let _ = self.disk.remove_file(self.part.as_str());
+            let _ = self.rt.remove_file(self.part.as_str());
         }
         put
     }

@@ -30,8 +30,8 @@ pub enum SaveFault {
 }
 
 /// Where a run saves its answers: nowhere, until it holds the file of a record. All its workers share it.
-pub struct Saving<D: Files> {
-    journal: OnceLock<DiskJournal<D>>,
+pub struct Saving<R: Files> {
+    journal: OnceLock<DiskJournal<R>>,
     // What the journal had that is resumed, until it is taken.
     left: Mutex<Option<LeftRecord>>,
 }
@@ -45,7 +45,7 @@ struct LeftRecord {
 }
 
 // Written by hand: a user that drops one proves a call, and nothing about its fields.
-impl<D: Files> Drop for Saving<D> {
+impl<R: Files> Drop for Saving<R> {
     fn drop(self) {
         let Saving {
             journal: _journal,
@@ -55,10 +55,10 @@ impl<D: Files> Drop for Saving<D> {
 }
 
 // The contents of a journal, from its beginning.
-fn text_of<R: Eprint, D: Files>(
+fn text_of<R: Eprint + Files>(
     rt: &R,
     alloc: Global,
-    held: &mut HeldJournal<D>,
+    held: &mut HeldJournal<R>,
 ) -> Result<Vec<u8>, SaveFault> {
     match read_input(alloc, held.file(), MAX_RECORD) {
         Ok(text) => Ok(text),
@@ -155,13 +155,13 @@ fn cut_to<R: Eprint>(
 }
 
 // All bytes of the file at a path, at most this many; none if there is no file.
-fn read_at<D: Files>(
-    disk: &D,
+fn read_at<R: Files>(
+    rt: &R,
     alloc: Global,
     path: &str,
     limit: usize,
 ) -> Result<Option<Vec<u8>>, ReadInputFault> {
-    match File::open(disk, path) {
+    match File::open(rt, path) {
         Ok(mut file) => Ok(Some(read_input(alloc, &mut file, limit)?)),
         Err(e) if e.kind() == ErrorKind::NotFound => Ok(None),
         Err(e) if e.kind() == ErrorKind::OutOfMemory => Err(ReadInputFault::Memory),
@@ -170,8 +170,8 @@ fn read_at<D: Files>(
 }
 
 // Whether a file is at a path that a record may replace. What none may replace is refused, and a person gets a message.
-fn is_file<R: Eprint, D: Files>(rt: &R, disk: &D, saved: &str) -> Result<bool, SaveFault> {
-    match look_for_file(disk, saved) {
+fn is_file<R: Eprint + Files>(rt: &R, saved: &str) -> Result<bool, SaveFault> {
+    match look_for_file(rt, saved) {
         Ok(is_there) => Ok(is_there),
         Err(e) if e.kind() == ErrorKind::AlreadyExists => {
             let _ = eprintln!(rt;
@@ -184,13 +184,12 @@ fn is_file<R: Eprint, D: Files>(rt: &R, disk: &D, saved: &str) -> Result<bool, S
 }
 
 // Refuses a file that a run would replace by a record without its answers, and reports this to a person.
-fn refuse_other<R: Eprint, D: Files>(
+fn refuse_other<R: Eprint + Files>(
     rt: &R,
-    disk: &D,
     saved: &str,
     resumed: Option<&str>,
 ) -> Result<(), SaveFault> {
-    if is_file(rt, disk, saved)? && resumed != Some(saved) {
+    if is_file(rt, saved)? && resumed != Some(saved) {
         let _ = eprintln!(rt;
             "{saved}: is there; resume it by --resume {saved}, remove it, or save to another file"
         );
@@ -216,13 +215,8 @@ fn refuse_left<R: Eprint>(
 }
 
 // Refuses a path at which no record can be made, and reports this to a person.
-fn refuse_unmade<R: Eprint, D: Files>(
-    rt: &R,
-    disk: &D,
-    alloc: Global,
-    saved: &str,
-) -> Result<(), SaveFault> {
-    if can_be_made(disk, alloc, saved)? {
+fn refuse_unmade<R: Eprint + Files>(rt: &R, alloc: Global, saved: &str) -> Result<(), SaveFault> {
+    if can_be_made(rt, alloc, saved)? {
         return Ok(());
     }
     let _ = eprintln!(rt; "{saved}: no file can be made there");
@@ -231,8 +225,8 @@ fn refuse_unmade<R: Eprint, D: Files>(
 
 // Whether a journal is at a path. What is neither a file nor nothing is refused with a message: a link isn't followed, and
 // nobody waits at a pipe.
-fn is_beside<R: Eprint, D: Files>(rt: &R, disk: &D, path: &str) -> Result<bool, ReadInputFault> {
-    match look_for_file(disk, path) {
+fn is_beside<R: Eprint + Files>(rt: &R, path: &str) -> Result<bool, ReadInputFault> {
+    match look_for_file(rt, path) {
         Ok(is_there) => Ok(is_there),
         Err(e) if e.kind() == ErrorKind::AlreadyExists => {
             let _ = eprintln!(rt;
@@ -246,17 +240,16 @@ fn is_beside<R: Eprint, D: Files>(rt: &R, disk: &D, path: &str) -> Result<bool, 
 
 // The whole entries of the journal beside a record that isn't saved to; nothing if there is no journal. One that is none is
 // handed out as it is, so that its line is reported.
-fn left_beside<R: Eprint, D: Files>(
+fn left_beside<R: Eprint + Files>(
     rt: &R,
-    disk: &D,
     alloc: Global,
     saved: &str,
 ) -> Result<Vec<u8>, ReadInputFault> {
     let path = format!(in alloc; "{saved}.journal")?;
-    if !is_beside(rt, disk, path.as_str())? {
+    if !is_beside(rt, path.as_str())? {
         return Ok(Vec::new(alloc));
     }
-    let Some(mut text) = read_at(disk, alloc, path.as_str(), MAX_RECORD)? else {
+    let Some(mut text) = read_at(rt, alloc, path.as_str(), MAX_RECORD)? else {
         return Ok(Vec::new(alloc));
     };
     match front_of(rt, alloc, path.as_str(), text.as_slice()) {
@@ -333,14 +326,14 @@ fn joined(alloc: Global, record: Vec<u8>, journal: Vec<u8>) -> Result<Vec<u8>, R
 }
 
 // The record at a path, of at most so many bytes, and what the journal beside it has. If one of both is missing it is the other.
-fn read_with<D: Files>(
-    disk: &D,
+fn read_with<R: Files>(
+    rt: &R,
     alloc: Global,
     path: &str,
     limit: usize,
     journal: Vec<u8>,
 ) -> Result<Vec<u8>, ReadInputFault> {
-    match read_at(disk, alloc, path, limit)? {
+    match read_at(rt, alloc, path, limit)? {
         Some(record) => joined(alloc, record, journal),
         None if journal.is_empty() => Err(ReadInputFault::Failed),
         None => Ok(journal),
@@ -348,15 +341,14 @@ fn read_with<D: Files>(
 }
 
 // The same of a record that isn't saved to.
-fn read_beside<R: Eprint, D: Files>(
+fn read_beside<R: Eprint + Files>(
     rt: &R,
-    disk: &D,
     alloc: Global,
     path: &str,
     limit: usize,
 ) -> Result<Vec<u8>, ReadInputFault> {
-    let journal = left_beside(rt, disk, alloc, path)?;
-    read_with(disk, alloc, path, limit, journal)
+    let journal = left_beside(rt, alloc, path)?;
+    read_with(rt, alloc, path, limit, journal)
 }
 
 impl From<AllocError> for SaveFault {
@@ -365,9 +357,9 @@ impl From<AllocError> for SaveFault {
     }
 }
 
-impl<D: Files> Saving<D> {
+impl<R: Files> Saving<R> {
     /// Nowhere. Takes no memory.
-    pub fn new() -> Saving<D> {
+    pub fn new() -> Saving<R> {
         Saving {
             journal: OnceLock::new(),
             left: Mutex::new(None),
@@ -375,7 +367,7 @@ impl<D: Files> Saving<D> {
     }
 
     /// The journal of the run, if one is held.
-    pub fn journal(&self) -> Option<&DiskJournal<D>> {
+    pub fn journal(&self) -> Option<&DiskJournal<R>> {
         self.journal.get()
     }
 
@@ -384,19 +376,19 @@ impl<D: Files> Saving<D> {
     /// is resumed too. The run is refused if it would lose that, or a file that is there, and if the file is a link, a folder or a
     /// device. If the journal can't be opened, that is reported, and the run goes on without it, unless no file can be made there
     /// at all. To be called once, before anything is requested.
-    pub fn hold<R: Wait + Clock + Eprint>(
+    pub fn hold(
         &self,
         rt: &R,
-        disk: &D,
         alloc: Global,
         saved: &str,
         resumed: Option<&str>,
     ) -> Result<(), SaveFault>
     where
-        D::File: Lock,
+        R: Wait + Clock + Eprint,
+        R::File: Lock,
     {
-        refuse_other(rt, disk, saved, resumed)?;
-        match HeldJournal::open(disk, alloc, saved) {
+        refuse_other(rt, saved, resumed)?;
+        match HeldJournal::open(rt, alloc, saved) {
             Ok(held) => self.begin(rt, alloc, held, saved, resumed),
             Err(OpenJournalFault::Memory) => Err(SaveFault::Memory),
             Err(OpenJournalFault::Held) => {
@@ -404,7 +396,7 @@ impl<D: Files> Saving<D> {
                 Err(SaveFault::Refused)
             }
             Err(OpenJournalFault::Device) => {
-                refuse_unmade(rt, disk, alloc, saved)?;
+                refuse_unmade(rt, alloc, saved)?;
                 let _ = eprintln!(rt;
                     "{saved}.journal: can't be opened; answers are kept in memory, and lost if this run is killed"
                 );
@@ -414,14 +406,17 @@ impl<D: Files> Saving<D> {
     }
 
     // Begins a journal after what is left there.
-    fn begin<R: Wait + Clock + Eprint>(
+    fn begin(
         &self,
         rt: &R,
         alloc: Global,
-        mut held: HeldJournal<D>,
+        mut held: HeldJournal<R>,
         saved: &str,
         resumed: Option<&str>,
-    ) -> Result<(), SaveFault> {
+    ) -> Result<(), SaveFault>
+    where
+        R: Wait + Clock + Eprint,
+    {
         let whole = self.take_left(rt, alloc, &mut held, saved, resumed)?;
         let journal = held.begin(rt, alloc, whole);
         if !journal.is_open(rt) {
@@ -432,14 +427,17 @@ impl<D: Files> Saving<D> {
     }
 
     // Keeps what is left in a journal, if it is resumed. Returns how many bytes of it stay there.
-    fn take_left<R: Wait + Eprint>(
+    fn take_left(
         &self,
         rt: &R,
         alloc: Global,
-        held: &mut HeldJournal<D>,
+        held: &mut HeldJournal<R>,
         saved: &str,
         resumed: Option<&str>,
-    ) -> Result<u64, SaveFault> {
+    ) -> Result<u64, SaveFault>
+    where
+        R: Wait + Eprint,
+    {
         let mut text = text_of(rt, alloc, held)?;
         let front = front_of(rt, alloc, held.path(), text.as_slice())?;
         let Some(from) = resumed else {
@@ -457,14 +455,16 @@ impl<D: Files> Saving<D> {
     /// The record at a path, of at most so many bytes, with what the journal beside it has, and then the journal that is held: of
     /// two answers of one address, or of one origin, the first that is no fault. If the record or the journal beside it is missing it
     /// is the other. What of journals is taken is reported.
-    pub fn read<R: Wait + Eprint>(
+    pub fn read(
         &self,
         rt: &R,
-        disk: &D,
         alloc: Global,
         path: &str,
         limit: usize,
-    ) -> Result<Vec<u8>, ReadInputFault> {
+    ) -> Result<Vec<u8>, ReadInputFault>
+    where
+        R: Wait + Eprint,
+    {
         let left = self.left.lock(rt).take();
         match left {
             Some(
@@ -472,19 +472,22 @@ impl<D: Files> Saving<D> {
                     text,
                     is_beside: true,
                 },
-            ) => read_with(disk, alloc, path, limit, text),
+            ) => read_with(rt, alloc, path, limit, text),
             Some(LeftRecord { text, .. }) => {
-                let record = read_beside(rt, disk, alloc, path, limit)?;
+                let record = read_beside(rt, alloc, path, limit)?;
                 joined(alloc, record, text)
             }
-            None => read_beside(rt, disk, alloc, path, limit),
+            None => read_beside(rt, alloc, path, limit),
         }
     }
 
     /// Ends the run: a journal that has no answer is removed.
-    pub fn end<R: Wait>(&self, rt: &R, disk: &D) {
+    pub fn end(&self, rt: &R)
+    where
+        R: Wait,
+    {
         if let Some(journal) = self.journal.get() {
-            journal.remove_where_empty(rt, disk);
+            journal.remove_if_empty(rt);
         }
     }
 }

@@ -91,7 +91,7 @@ fn main(rt: HostRuntime) -> ExitCode {
     let kept = KeptConnections::new(rt.alloc());
     let is_shown = rt.stderr().is_terminal() && !targets.is_quiet;
     let path = targets.into_rejected();
-    let Some(mut rejected) = RejectedFile::open(&rt, &rt, &failures, path, &mut output) else {
+    let Some(mut rejected) = RejectedFile::open(&rt, &failures, path, &mut output) else {
         failures.tell(&rt, &mut rt.stderr());
         return ExitCode::from(3);
     };
@@ -127,7 +127,7 @@ fn main(rt: HostRuntime) -> ExitCode {
         &mut rejected,
     );
     let status = rejected.status(status, &mut writer);
-    saving.end(&rt, &rt);
+    saving.end(&rt);
     parts.remove(&rt);
     failures.say_unasked(&rt, &kept);
     if takes_failures {
