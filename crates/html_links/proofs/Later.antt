@@ -18,7 +18,7 @@ use Rattle.html_links.specs.declared.context.Scope.{Scope}
 use Rattle.html_links.specs.declared.lexer.Ended.{Ended}
 use Rattle.html_links.specs.declared.lexer.Ended.TheVariants as ends
 use Rattle.html_links.specs.declared.lexer.Lexer.{Lexer}
-use Rattle.html_links.specs.declared.lexer.TokenizerState.TheVariants.{BeforeValue}
+use Rattle.html_links.specs.declared.lexer.TokenizerState.TheVariants.{BeforeAttributeValue}
 use Rattle.html_links.specs.declared.raw_element.RawElement.{RawElement}
 
 -- ---- the first of a name counts
@@ -63,7 +63,7 @@ comes_first name kept wanted.Style tail a h = refl
 comes_first name kept wanted.All tail a h = refl
 
 -- what is before a value, if its attribute is the first that is kept
-before_it : (l : Lexer) (w : Wanted) (attribute : AskedName) (text : List ℕ) → l.mode ≡ BeforeValue → l.wanted ≡ w → l.keeps ≡ Some attribute → l.attributes.items ≡ []
+before_it : (l : Lexer) (w : Wanted) (attribute : AskedName) (text : List ℕ) → l.mode ≡ BeforeAttributeValue → l.wanted ≡ w → l.keeps ≡ Some attribute → l.attributes.items ≡ []
     → remaining l text ≡ tag_with l.context l.opens w l.raw l.styled l.name.items ((record { name = asked_name attribute; value = (value_at (from is_not_white text)).value }) ∷ []) (attributes (value_at (from is_not_white text)).rest)
 before_it l w attribute text mode is keeps none =
     ap (λ m. remaining_in m l text) mode
@@ -86,14 +86,14 @@ found_none k scope w raw styled name attribute value (Some found) h e =
     absurd (e _ _ (comes_first name (asked_attributes w found.0) w _ (record { name = asked_name attribute; value = value }) h))
 
 pub later_read : (l : Lexer) (w : Wanted) (attribute : AskedName) (text name : List ℕ) (kept : List Attribute) (more : List Source)
-    → is_kept w ≡ true → l.mode ≡ BeforeValue → l.wanted ≡ w → l.keeps ≡ Some attribute → l.attributes.items ≡ []
+    → is_kept w ≡ true → l.mode ≡ BeforeAttributeValue → l.wanted ≡ w → l.keeps ≡ Some attribute → l.attributes.items ≡ []
     → remaining l text ≡ FromTag (record { name = name; attributes = kept }) ∷ more → kept ≡ later_at w attribute text
 later_read l w attribute text name kept more h mode is keeps none e =
     found_later l.context l.opens w l.raw l.styled l.name.items attribute (value_at (from is_not_white text)).value (attributes (value_at (from is_not_white text)).rest) (record { name = name; attributes = kept }) more h
     (sym (before_it l w attribute text mode is keeps none) ∙ e)
 
 pub later_cut : (l : Lexer) (w : Wanted) (attribute : AskedName) (text : List ℕ)
-    → is_kept w ≡ true → l.mode ≡ BeforeValue → l.wanted ≡ w → l.keeps ≡ Some attribute → l.attributes.items ≡ []
+    → is_kept w ≡ true → l.mode ≡ BeforeAttributeValue → l.wanted ≡ w → l.keeps ≡ Some attribute → l.attributes.items ≡ []
     → ((tag : Tag) (more : List Source) → ¬ (remaining l text ≡ FromTag tag ∷ more)) → [] ≡ later_at w attribute text
 later_cut l w attribute text h mode is keeps none e =
     found_none l.context l.opens w l.raw l.styled l.name.items attribute (value_at (from is_not_white text)).value (attributes (value_at (from is_not_white text)).rest) h

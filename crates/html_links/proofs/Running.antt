@@ -8,7 +8,7 @@ use Rattle.css_links.specs.References.{Front}
 use Rattle.html_links.specs.Markup.{Attributes, Value, mark, until_section, beyond_section, end_tag, attributes, value_behind}
 use Rattle.html_links.specs.declared.lexer.Section.{Section}
 use Rattle.html_links.specs.Pieces.{Source}
-use Rattle.html_links.specs.Lexing.{asked_from, with_section, in_section, tags_after, tags_with, kept_with, with_named, in_end_tag_name, in_attribute_name, in_quoted_value, in_bare_value, in_raw_text}
+use Rattle.html_links.specs.Lexing.{asked_from, with_section, in_section, tags_after, tags_with, kept_with, with_named, in_end_tag_name, in_attribute_name, in_attribute_value_quoted, in_attribute_value_unquoted, in_raw_text}
 use Rattle.html_links.specs.declared.lexer.Lexer.{Lexer}
 use Rattle.html_links.specs.declared.raw_element.RawElement.{RawElement}
 use Rattle.std.proofs.lemmas.Bool.Decides.{nat_tests}
@@ -173,7 +173,7 @@ attribute_name_over l new text rest same named =
 -- a value goes on, as far as it is kept
 pub quoted_over : (quote : ℕ) (l new : Lexer) (text rest : List ℕ) → new ≡ record l { value = new.value }
     → ((value : List ℕ) → kept_with l (new.value.items ++ value) ≡ kept_with l (l.value.items ++ (until (is quote) text ++ value)))
-    → in_quoted_value quote l (text ++ rest) ≡ in_quoted_value quote new (from (is quote) text ++ rest)
+    → in_attribute_value_quoted quote l (text ++ rest) ≡ in_attribute_value_quoted quote new (from (is quote) text ++ rest)
 quoted_over quote l new text rest same kept =
     let more = until (is quote) (from (is quote) text ++ rest) in
     ap (λ v. tags_with l (kept_with l (l.value.items ++ v)) (attributes (beyond (is quote) (text ++ rest)))) (until_over (is quote) text rest)
@@ -183,7 +183,7 @@ quoted_over quote l new text rest same kept =
 
 pub bare_over : (l new : Lexer) (text rest : List ℕ) → new ≡ record l { value = new.value }
     → ((value : List ℕ) → kept_with l (new.value.items ++ value) ≡ kept_with l (l.value.items ++ (until ends_bare_value text ++ value)))
-    → in_bare_value l (text ++ rest) ≡ in_bare_value new (from ends_bare_value text ++ rest)
+    → in_attribute_value_unquoted l (text ++ rest) ≡ in_attribute_value_unquoted new (from ends_bare_value text ++ rest)
 bare_over l new text rest same kept =
     let more = until ends_bare_value (from ends_bare_value text ++ rest) in
     ap (λ v. tags_with l (kept_with l (l.value.items ++ v)) (attributes (from ends_bare_value (text ++ rest)))) (until_over ends_bare_value text rest)

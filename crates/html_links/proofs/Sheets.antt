@@ -9,7 +9,7 @@ use Rattle.html_links.specs.Pieces.Source.{FromSheet}
 use Rattle.html_links.specs.Contexts.{Context}
 use Rattle.html_links.specs.Markup.{attributes, beyond_tag, closing_text, is_close, completes, style, raw_text, sheet_of}
 use Rattle.html_links.specs.Asked.{asked, asked_tags}
-use Rattle.html_links.specs.Lexing.{sheet_if, behind_left, sheet_from, sheet_left, in_sheet, in_sheet_end, in_raw_end}
+use Rattle.html_links.specs.Lexing.{sheet_if, behind_left, sheet_from, sheet_left, in_sheet, in_sheet_end_tag, in_raw_end}
 use Rattle.html_links.specs.declared.raw_element.RawElement.TheVariants.{Style}
 use Rattle.html_links.proofs.Stepping.{eqb_same, nothing}
 use Rattle.html_links.proofs.RawText.{lower_below, raw_word, word_less, close_skip, left_next, left_first, left_other, left_none, left_none_other}
@@ -37,7 +37,7 @@ sheet_read rest = of_rest (raw_text style rest) ∙ sym (from_rest nothing_read 
 pub sheet_at_end : (k : Context) (s : Front) → in_sheet k s [] ≡ FromSheet (ended s) ∷ []
 sheet_at_end k s = ap (λ xs. FromSheet (ended s) ∷ xs) (nothing k)
 
-pub held_at_end : (k : Context) (s : Front) (held : List ℕ) (m : ℕ) → in_sheet_end k s held m [] ≡ FromSheet (ended (fed s held)) ∷ []
+pub held_at_end : (k : Context) (s : Front) (held : List ℕ) (m : ℕ) → in_sheet_end_tag k s held m [] ≡ FromSheet (ended (fed s held)) ∷ []
 held_at_end k s held m = go (drop m (closing_text style)) where
   go : (left : List ℕ) → sheet_left s held left [] ++ asked_tags k (behind_left left style []) ≡ FromSheet (ended (fed s held)) ∷ []
   go [] = ap (λ xs. FromSheet (ended (fed s held)) ∷ xs) (nothing k)
@@ -66,7 +66,7 @@ both k s t a b e f = ap₂ (λ xs ys. xs ++ asked_tags k ys) e f
 pub sheet_other : (k : Context) (s : Front) (b : ℕ) (bs : List ℕ) → (b ≡ 60 → ⊥) → in_sheet k s (b ∷ bs) ≡ in_sheet k (fed s (b ∷ [])) bs
 sheet_other k s b bs h = both k _ _ _ _ (sheet_skip s b bs h) (close_skip style b bs h)
 
-pub sheet_less : (k : Context) (s : Front) (bs : List ℕ) → in_sheet k s (60 ∷ bs) ≡ in_sheet_end k s (60 ∷ []) 1 bs
+pub sheet_less : (k : Context) (s : Front) (bs : List ℕ) → in_sheet k s (60 ∷ bs) ≡ in_sheet_end_tag k s (60 ∷ []) 1 bs
 sheet_less k s bs = refl
 
 -- many bytes that begin none
@@ -110,16 +110,16 @@ all_ended s held b bs h = rw h refl
 
 -- after the whole of it, before a byte that ends a name and before another
 pub sheet_ended : (k : Context) (s : Front) (held : List ℕ) (m b : ℕ) (bs : List ℕ) → length (closing_text style) ≤ m → ends_tag_name b ≡ true
-    → in_sheet_end k s held m (b ∷ bs) ≡ FromSheet (ended s) ∷ in_raw_end k (b ∷ bs)
+    → in_sheet_end_tag k s held m (b ∷ bs) ≡ FromSheet (ended s) ∷ in_raw_end k (b ∷ bs)
 sheet_ended k s held m b bs h t = rw (drop_all m (closing_text style) h) (both k _ (FromSheet (ended s) ∷ []) _ (beyond_tag (attributes (b ∷ bs))) (all_ended s held b bs t) (left_none style b bs t))
 
 pub sheet_goes_on : (k : Context) (s : Front) (held : List ℕ) (m b : ℕ) (bs : List ℕ) → length (closing_text style) ≤ m → ends_tag_name b ≡ false
-    → in_sheet_end k s held m (b ∷ bs) ≡ in_sheet k (fed s held) (b ∷ bs)
+    → in_sheet_end_tag k s held m (b ∷ bs) ≡ in_sheet k (fed s held) (b ∷ bs)
 sheet_goes_on k s held m b bs h t = rw (drop_all m (closing_text style) h) (both k _ _ _ _ (all_broken s held b bs t) (left_none_other style b bs t))
 
 -- another byte than the next of it
 pub sheet_broken : (k : Context) (s : Front) (held : List ℕ) (m b : ℕ) (bs : List ℕ) → m < length (closing_text style) → (to_ascii_lowercase b ≡ get_or (closing_text style) m 0 → ⊥)
-    → in_sheet_end k s held m (b ∷ bs) ≡ in_sheet k (fed s held) (b ∷ bs)
+    → in_sheet_end_tag k s held m (b ∷ bs) ≡ in_sheet k (fed s held) (b ∷ bs)
 sheet_broken k s held m b bs h t =
     let text = closing_text style in
     rw (drop-cons text m 0 h)
@@ -137,7 +137,7 @@ first_step s held b bs h =
     ap (λ x. sheet_left s held (closing_text style) (x ∷ bs)) less ∙ first_less s held bs ∙ ap (λ x. sheet_left s (held ++ x ∷ []) (47 ∷ style) bs) (sym less)
 
 pub sheet_next : (k : Context) (s : Front) (held : List ℕ) (m b : ℕ) (bs : List ℕ) → m < length (closing_text style) → to_ascii_lowercase b ≡ get_or (closing_text style) m 0
-    → in_sheet_end k s held m (b ∷ bs) ≡ in_sheet_end k s (held ++ b ∷ []) (suc m) bs
+    → in_sheet_end_tag k s held m (b ∷ bs) ≡ in_sheet_end_tag k s (held ++ b ∷ []) (suc m) bs
 sheet_next k s held zero b bs h t = both k _ _ _ _ (first_step s held b bs t) (left_first style b bs t)
 sheet_next k s held (suc zero) b bs h t = both k _ _ _ _ (left_step 47 style s held b bs (λ f. omega arith) t) (left_next 47 style style b bs (λ f. omega arith) t)
 sheet_next k s held (suc (suc i)) b bs h t =

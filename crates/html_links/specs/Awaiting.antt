@@ -16,7 +16,7 @@ use Rattle.html_links.specs.declared.links.LinkPlace.TheVariants as place
 use Rattle.html_links.specs.declared.table.LinkForm.{LinkForm}
 use Rattle.html_links.specs.declared.table.LinkForm.TheVariants as form
 use Rattle.html_links.specs.declared.lexer.Lexer.{Lexer}
-use Rattle.html_links.specs.declared.lexer.TokenizerState.TheVariants.{BeforeValue}
+use Rattle.html_links.specs.declared.lexer.TokenizerState.TheVariants.{BeforeAttributeValue}
 use Rattle.html_links.specs.declared.awaiting.ValueForm.{ValueForm}
 use Rattle.html_links.specs.declared.awaiting.ValueForm.TheVariants.{Address, Base, Set, Refresh, Sheet, Mention}
 use Rattle.html_links.specs.declared.lexer.awaiting.TheConstants.{MOST_BEFORE}
@@ -80,7 +80,7 @@ is_kept wanted.All = true
 
 -- The value that comes next is that of this attribute, the first of its name in a start tag.
 pub record AwaitsValue (l : Lexer) (attribute : AskedName) : Type 0 where
-  pub mode : l.mode ≡ BeforeValue
+  pub mode : l.mode ≡ BeforeAttributeValue
   pub keeps : l.keeps ≡ Some attribute
   pub kept : is_kept l.wanted ≡ true
   pub first : written (asked_name attribute) l.attributes.items ≡ None

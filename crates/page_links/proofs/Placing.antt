@@ -8,7 +8,7 @@ use Rattle.html_links.specs.Contexts.{Context, opened}
 use Rattle.html_links.specs.Markup.{Attributes, attributes, value_at, valued, unless_closed, style, raw_text, is_close, behind_close}
 use Rattle.html_links.specs.Links.{with_tags}
 use Rattle.html_links.specs.Asked.{asked_name, asked_attributes, asked_tags, given}
-use Rattle.html_links.specs.Lexing.{remaining, remaining_in, before_value, tags_with, tags_with_value, kept_if, behind_tag, sheet_from}
+use Rattle.html_links.specs.Lexing.{remaining, remaining_in, before_attribute_value, tags_with, tags_with_value, kept_if, behind_tag, sheet_from}
 use Rattle.html_links.specs.Lexing as lexing
 use Rattle.html_links.specs.Scanning.{ScanProgress, StandsFor}
 use Rattle.html_links.specs.Awaiting.{Awaits, AwaitsValue, form_in, is_kept, later_of, later_by, later_at}
@@ -18,7 +18,7 @@ use Rattle.html_links.specs.declared.asked.Wanted.TheVariants as wanted
 use Rattle.html_links.specs.declared.context.Scope.{Scope}
 use Rattle.html_links.specs.declared.context.Syntax.{Syntax}
 use Rattle.html_links.specs.declared.lexer.Lexer.{Lexer}
-use Rattle.html_links.specs.declared.lexer.TokenizerState.TheVariants.{InSheet}
+use Rattle.html_links.specs.declared.lexer.TokenizerState.TheVariants.{SheetText}
 use Rattle.html_links.specs.declared.raw_element.RawElement.{RawElement}
 use Rattle.html_links.specs.declared.awaiting.ValueForm.{ValueForm}
 use Rattle.html_links.specs.declared.awaiting.ValueForm.TheVariants.{Sheet}
@@ -80,7 +80,7 @@ from_rest s (b ∷ bs) = go (is_close style (b ∷ bs)) (from_rest (step s b) bs
   go true h = refl
   go false h = h
 
-pub sheet_placed : (syntax : Syntax) (s : ScanProgress) (front end : List ℕ) → StandsFor syntax s front → s.lexer.mode ≡ InSheet → IsSheetPlace syntax front end
+pub sheet_placed : (syntax : Syntax) (s : ScanProgress) (front end : List ℕ) → StandsFor syntax s front → s.lexer.mode ≡ SheetText → IsSheetPlace syntax front end
 sheet_placed syntax s front end stands mode = record {
   found = s.found;
   before = s.lexer.sheet.front;
@@ -159,7 +159,7 @@ one_anew changes syntax page s t out new left quote value end other form awaits 
 }
 
 -- a style sheet anew
-pub sheet_anew : (changes : Changes) (syntax : Syntax) (page : List ℕ) (s t : ScanProgress) (out new left sheet end other : List ℕ) → s.lexer.mode ≡ InSheet
+pub sheet_anew : (changes : Changes) (syntax : Syntax) (page : List ℕ) (s t : ScanProgress) (out new left sheet end other : List ℕ) → s.lexer.mode ≡ SheetText
     → left ≡ sheet ++ end → IsSheetText sheet end → other ≡ sheets.rewritten (changes Sheet) sheet → IsSheetText other end → new ≡ out ++ other
     → (StandsFor syntax s out → StandsFor syntax t new) → IsAt changes syntax page s out left → IsAt changes syntax page t new end
 sheet_anew changes syntax page s t out new left sheet end other mode cut was anew fits is stands at = record {

@@ -3,7 +3,7 @@ ghost use Rattle.std.specs.Prelude.{◌≡◌, ◌++◌, [], ◌≤◌, ◌<◌,
 ghost use Rattle.html_links.specs.Scanning.{StandsFor};
 ghost use Rattle.html_links.specs.Awaiting.{Awaits};
 ghost use Rattle.html_links.specs.declared.context.Syntax.{Syntax};
-ghost use Rattle.html_links.specs.declared.lexer.TokenizerState.TheVariants.{InSheet};
+ghost use Rattle.html_links.specs.declared.lexer.TokenizerState.TheVariants.{SheetText};
 ghost use Rattle.page_links.specs.Rewriting.{IsAnew, IsAt};
 
 use crate::bytes::{is_white, run_len};
@@ -88,7 +88,7 @@ impl Writer {
         changes: &P,
         left: &'a [u8],
     ) -> Result<&'a [u8], OutOfMemory>
-        requires { self.old.scanner.lexer.mode ≡ InSheet }
+        requires { self.old.scanner.lexer.mode ≡ SheetText }
         ensures at { IfOk result (λ rest. (syntax : Syntax) (page : List ℕ) → IsAt (P.becomes changes.now) syntax page self.old.scanner self.old.out.items left.now → IsAt (P.becomes changes.now) syntax page self.new.scanner self.new.out.items rest.now) }
         ensures within { IfOk result (λ rest. length rest.now ≤ length left.now) }
     {

@@ -15,21 +15,21 @@ use std::mem;
 
 impl Lexer {
     ghost use Rattle.html_links.specs.Markup.{Value, attributes, value_behind, with_attribute};
-    ghost use Rattle.html_links.specs.Lexing.{with_named, tags_with, kept_with, between_attributes, before_attribute, in_attribute_name, after_attribute_name, before_value, in_quoted_value, in_bare_value};
+    ghost use Rattle.html_links.specs.Lexing.{with_named, tags_with, kept_with, between_attributes, before_attribute_name, in_attribute_name, after_attribute_name, before_attribute_value, in_attribute_value_quoted, in_attribute_value_unquoted};
     ghost use Rattle.html_links.specs.inner.Lexing.{HasRead, GivesTag, LeavesTag};
 
-    pub(crate) fn before_attribute(&mut self, byte: u8) -> Result<Ended, AllocError>
-        ensures { IfOk result (λ ends. GivesTag (before_attribute self.old) byte ends self.new) }
+    pub(crate) fn before_attribute_name(&mut self, byte: u8) -> Result<Ended, AllocError>
+        ensures { IfOk result (λ ends. GivesTag (before_attribute_name self.old) byte ends self.new) }
     {
         if byte == b'>' {
             return self.end_tag(false);
         }
         if is_white(byte) {
-            self.mode = TokenizerState::BeforeAttribute;
+            self.mode = TokenizerState::BeforeAttributeName;
             return Ok(Ended::Nothing);
         }
         if byte == b'/' {
-            self.mode = TokenizerState::SelfClosing;
+            self.mode = TokenizerState::SelfClosingStartTag;
             return Ok(Ended::Nothing);
         }
         self.attribute.clear();
@@ -38,13 +38,13 @@ impl Lexer {
         Ok(Ended::Nothing)
     }
 
-    pub(crate) fn self_closing(&mut self, byte: u8) -> Result<Ended, AllocError>
+    pub(crate) fn self_closing_start_tag(&mut self, byte: u8) -> Result<Ended, AllocError>
         ensures { IfOk result (λ ends. GivesTag (between_attributes true self.old) byte ends self.new) }
     {
         if byte == b'>' {
             return self.end_tag(true);
         }
-        self.before_attribute(byte)
+        self.before_attribute_name(byte)
     }
 
     pub(crate) fn attribute_name(&mut self, byte: u8) -> Result<Ended, AllocError>
@@ -115,74 +115,81 @@ impl Lexer {
         }
         self.value.clear();
         if byte == b'=' {
-            self.mode = TokenizerState::BeforeValue;
+            self.mode = TokenizerState::BeforeAttributeValue;
             return Ok(Ended::Nothing);
         }
         self.end_attribute()?;
-        self.before_attribute(byte)
+        self.before_attribute_name(byte)
     }
 
-    pub(crate) fn before_value(&mut self, byte: u8) -> Result<Ended, AllocError>
-        ensures { IfOk result (λ ends. GivesTag (before_value self.old) byte ends self.new) }
+    pub(crate) fn before_attribute_value(&mut self, byte: u8) -> Result<Ended, AllocError>
+        ensures { IfOk result (λ ends. GivesTag (before_attribute_value self.old) byte ends self.new) }
     {
         if is_white(byte) {
-            self.mode = TokenizerState::BeforeValue;
+            self.mode = TokenizerState::BeforeAttributeValue;
             return Ok(Ended::Nothing);
         }
         self.value.clear();
         if is_quote(byte) {
-            self.mode = TokenizerState::QuotedValue(byte);
+            self.mode = TokenizerState::AttributeValueQuoted(byte);
             return Ok(Ended::Nothing);
         }
-        self.bare_value(byte)
+        self.attribute_value_unquoted(byte)
     }
 
-    pub(crate) fn quoted_value(&mut self, quote: u8, byte: u8) -> Result<Ended, AllocError>
-        ensures { IfOk result (λ ends. GivesTag (in_quoted_value quote self.old) byte ends self.new) }
+    pub(crate) fn attribute_value_quoted(
+        &mut self,
+        quote: u8,
+        byte: u8,
+    ) -> Result<Ended, AllocError>
+        ensures { IfOk result (λ ends. GivesTag (in_attribute_value_quoted quote self.old) byte ends self.new) }
     {
         if byte == quote {
             self.end_attribute()?;
-            self.mode = TokenizerState::BeforeAttribute;
+            self.mode = TokenizerState::BeforeAttributeName;
             return Ok(Ended::Nothing);
         }
         self.push_value(&[byte])?;
-        self.mode = TokenizerState::QuotedValue(quote);
+        self.mode = TokenizerState::AttributeValueQuoted(quote);
         Ok(Ended::Nothing)
     }
 
-    pub(crate) fn quoted_value_run<'a>(
+    pub(crate) fn attribute_value_quoted_run<'a>(
         &mut self,
         quote: u8,
         text: &'a [u8],
     ) -> Result<&'a [u8], AllocError>
-        ensures gives { IfOk result (λ left. LeavesTag (in_quoted_value quote self.old) text.now left.now self.new) }
+        ensures gives { IfOk result (λ left. LeavesTag (in_attribute_value_quoted quote self.old) text.now left.now self.new) }
         ensures shorter { IfOk result (λ left. length left.now ≤ length text.now) }
     {
         let (value, left) = split_at_byte(quote, text);
         self.push_value(value)?;
-        self.mode = TokenizerState::QuotedValue(quote);
+        self.mode = TokenizerState::AttributeValueQuoted(quote);
         Ok(left)
     }
 
-    pub(crate) fn bare_value(&mut self, byte: u8) -> Result<Ended, AllocError>
-        ensures { IfOk result (λ ends. GivesTag (in_bare_value self.old) byte ends self.new) }
+    pub(crate) fn attribute_value_unquoted(&mut self, byte: u8) -> Result<Ended, AllocError>
+        ensures { IfOk result (λ ends. GivesTag (in_attribute_value_unquoted self.old) byte ends self.new) }
     {
         if ends_bare_value(byte) {
             self.end_attribute()?;
-            return self.before_attribute(byte);
+            return self.before_attribute_name(byte);
         }
         self.push_value(&[byte])?;
-        self.mode = TokenizerState::BareValue;
+        self.mode = TokenizerState::AttributeValueUnquoted;
         Ok(Ended::Nothing)
     }
 
-    pub(crate) fn bare_value_run<'a>(&mut self, text: &'a [u8]) -> Result<&'a [u8], AllocError>
-        ensures gives { IfOk result (λ left. LeavesTag (in_bare_value self.old) text.now left.now self.new) }
+    pub(crate) fn attribute_value_unquoted_run<'a>(
+        &mut self,
+        text: &'a [u8],
+    ) -> Result<&'a [u8], AllocError>
+        ensures gives { IfOk result (λ left. LeavesTag (in_attribute_value_unquoted self.old) text.now left.now self.new) }
         ensures shorter { IfOk result (λ left. length left.now ≤ length text.now) }
     {
         let (value, left) = TagSpan::BareValue.split(text);
         self.push_value(value)?;
-        self.mode = TokenizerState::BareValue;
+        self.mode = TokenizerState::AttributeValueUnquoted;
         Ok(left)
     }
 

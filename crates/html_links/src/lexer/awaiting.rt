@@ -6,7 +6,7 @@ ghost use Rattle.html_links.specs.Asked.{asked_name};
 ghost use Rattle.html_links.specs.Links.{kind_in};
 ghost use Rattle.html_links.specs.Lexing.{remaining};
 ghost use Rattle.html_links.specs.Awaiting.{AwaitsValue, IsUnawaited, form_in, is_kept, later_at};
-ghost use Rattle.html_links.specs.declared.lexer.TokenizerState.TheVariants.{BeforeValue, InSheet};
+ghost use Rattle.html_links.specs.declared.lexer.TokenizerState.TheVariants.{BeforeAttributeValue, SheetText};
 
 use crate::asked::{AskedName, Wanted};
 use crate::awaiting::{ValueForm, is_base, is_decided, row_form};
@@ -38,14 +38,14 @@ impl Lexer {
         ensures { MatchOption result (IsUnawaited self.now) (λ attribute. AwaitsValue self.now attribute) }
     {
         match self.mode {
-            TokenizerState::BeforeValue => self.awaited_attribute(),
+            TokenizerState::BeforeAttributeValue => self.awaited_attribute(),
             _ => None,
         }
     }
 
     /// The same before a value.
     fn awaited_attribute(&self) -> Option<AskedName>
-        requires { self.now.mode ≡ BeforeValue }
+        requires { self.now.mode ≡ BeforeAttributeValue }
         ensures { MatchOption result (IsUnawaited self.now) (λ attribute. AwaitsValue self.now attribute) }
     {
         let attribute = self.keeps?;
@@ -105,13 +105,13 @@ impl Lexer {
 
     /// A lexer before the value of that attribute, the first that is kept of its tag.
     fn at_value(alloc: Global, wanted: Wanted, attribute: AskedName) -> Self
-        ensures mode { result.mode ≡ BeforeValue }
+        ensures mode { result.mode ≡ BeforeAttributeValue }
         ensures wanted { result.wanted ≡ wanted }
         ensures keeps { result.keeps ≡ Some attribute }
         ensures attributes { result.attributes.items ≡ [] }
     {
         let mut lexer = Lexer::new(alloc, Syntax::Html);
-        lexer.mode = TokenizerState::BeforeValue;
+        lexer.mode = TokenizerState::BeforeAttributeValue;
         lexer.wanted = wanted;
         lexer.keeps = Some(attribute);
         lexer.attributes = Vec::new(alloc);
@@ -139,9 +139,9 @@ impl Lexer {
 
     /// Whether the next byte is in the text of a `style` element, which is raw text.
     pub(crate) fn is_in_sheet(&self) -> bool
-        ensures { result ≡ true ↔ (self.now.mode ≡ InSheet) }
+        ensures { result ≡ true ↔ (self.now.mode ≡ SheetText) }
     {
-        matches!(self.mode, TokenizerState::InSheet)
+        matches!(self.mode, TokenizerState::SheetText)
     }
 }
 

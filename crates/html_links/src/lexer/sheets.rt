@@ -12,7 +12,7 @@ use std::alloc::AllocError;
 use std::mem;
 
 impl Lexer {
-    ghost use Rattle.html_links.specs.Lexing.{remaining, in_raw_end, in_sheet, in_sheet_end};
+    ghost use Rattle.html_links.specs.Lexing.{remaining, in_raw_end, in_sheet, in_sheet_end_tag};
     ghost use Rattle.html_links.specs.inner.Lexing.{GivesTag, LeavesTag, tag_ended, sheet_and_end};
 
     /// Goes on in the text of a `style` element.
@@ -21,7 +21,7 @@ impl Lexer {
         ensures same { self.new ≡ record self.old { mode = self.new.mode; sheet = self.new.sheet } }
     {
         self.sheet = css_links::Scanner::new(self.alloc);
-        self.mode = TokenizerState::InSheet;
+        self.mode = TokenizerState::SheetText;
     }
 
     /// Puts bytes to the style sheet.
@@ -52,11 +52,11 @@ impl Lexer {
         if byte == b'<' {
             self.held.clear();
             self.held.push(byte)?;
-            self.mode = TokenizerState::SheetEnd(1);
+            self.mode = TokenizerState::SheetEndTag(1);
             return Ok(Ended::Nothing);
         }
         self.put_sheet(&[byte])?;
-        self.mode = TokenizerState::InSheet;
+        self.mode = TokenizerState::SheetText;
         Ok(Ended::Nothing)
     }
 
@@ -66,12 +66,12 @@ impl Lexer {
     {
         let (sheet, left) = split_at_byte(b'<', text);
         self.put_sheet(sheet)?;
-        self.mode = TokenizerState::InSheet;
+        self.mode = TokenizerState::SheetText;
         Ok(left)
     }
 
-    pub(crate) fn sheet_end(&mut self, matched: usize, byte: u8) -> Result<Ended, AllocError>
-        ensures { IfOk result (λ ends. GivesTag (in_sheet_end self.old.context self.old.sheet.front self.old.held.items matched) byte ends self.new) }
+    pub(crate) fn sheet_end_tag(&mut self, matched: usize, byte: u8) -> Result<Ended, AllocError>
+        ensures { IfOk result (λ ends. GivesTag (in_sheet_end_tag self.old.context self.old.sheet.front self.old.held.items matched) byte ends self.new) }
     {
         match RawElement::Style.closing().get(matched) {
             None => {
@@ -84,7 +84,7 @@ impl Lexer {
             Some(expected) => {
                 if byte.to_ascii_lowercase() == *expected {
                     self.held.push(byte)?;
-                    self.mode = TokenizerState::SheetEnd(matched + 1);
+                    self.mode = TokenizerState::SheetEndTag(matched + 1);
                     Ok(Ended::Nothing)
                 } else {
                     self.sheet_again(byte)
@@ -121,7 +121,7 @@ impl Lexer {
 
     /// Ends it there after a part of its end tag, which belongs to it.
     pub(crate) fn end_held_sheet(&mut self, matched: usize) -> Result<Ended, AllocError>
-        ensures { IfOk result (λ ends. in_sheet_end self.old.context self.old.sheet.front self.old.held.items matched [] ≡ tag_ended ends self.new) }
+        ensures { IfOk result (λ ends. in_sheet_end_tag self.old.context self.old.sheet.front self.old.held.items matched [] ≡ tag_ended ends self.new) }
     {
         self.put_held()?;
         self.end_sheet()?;
@@ -155,11 +155,11 @@ impl Lexer {
         self.styled = false;
         self.opens = None;
         self.mode = if byte == b'>' {
-            TokenizerState::Text
+            TokenizerState::Data
         } else if byte == b'/' {
-            TokenizerState::SelfClosing
+            TokenizerState::SelfClosingStartTag
         } else {
-            TokenizerState::BeforeAttribute
+            TokenizerState::BeforeAttributeName
         };
     }
 

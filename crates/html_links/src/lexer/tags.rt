@@ -25,7 +25,7 @@ pub(crate) fn push_lower(name: &mut Vec<u8>, text: &[u8]) -> Result<(), AllocErr
 impl Lexer {
     ghost use Rattle.html_links.specs.Contexts.{opened};
     ghost use Rattle.html_links.specs.Markup.{Attributes, start_tag, end_tag, attributes};
-    ghost use Rattle.html_links.specs.Lexing.{remaining, behind_tag, tags_after, in_tag_name, in_end_tag_name, in_raw_end, between_attributes, before_attribute};
+    ghost use Rattle.html_links.specs.Lexing.{remaining, behind_tag, tags_after, in_tag_name, in_end_tag_name, in_raw_end, between_attributes, before_attribute_name};
     ghost use Rattle.html_links.specs.inner.Lexing.{GivesTag, LeavesTag, source_if};
 
     pub(crate) fn tag_name(&mut self, byte: u8) -> Result<Ended, AllocError>
@@ -33,7 +33,7 @@ impl Lexer {
     {
         if ends_tag_name(byte) {
             self.begin_attributes();
-            return self.before_attribute(byte);
+            return self.before_attribute_name(byte);
         }
         self.name.push(byte.to_ascii_lowercase())?;
         self.mode = TokenizerState::TagName;
@@ -42,7 +42,7 @@ impl Lexer {
 
     /// Goes on after the name of a start tag, and settles what is kept of it and what it opens.
     fn begin_attributes(&mut self)
-        ensures { (rest : List ℕ) → tags_after self.old.context (start_tag self.old.context self.old.name.items (attributes rest)) ≡ before_attribute self.new rest }
+        ensures { (rest : List ℕ) → tags_after self.old.context (start_tag self.old.context self.old.name.items (attributes rest)) ≡ before_attribute_name self.new rest }
     {
         self.wanted = Wanted::in_start_tag(&self.name);
         self.raw = self.raw_element();
@@ -112,7 +112,7 @@ impl Lexer {
         self.raw = None;
         self.styled = false;
         self.opens = None;
-        self.before_attribute(byte)
+        self.before_attribute_name(byte)
     }
 
     pub(crate) fn end_tag_name_run<'a>(&mut self, text: &'a [u8]) -> Result<&'a [u8], AllocError>
@@ -178,7 +178,7 @@ impl Lexer {
             self.sheet = css_links::Scanner::new(self.alloc);
             self.held.clear();
         }
-        self.mode = TokenizerState::Text;
+        self.mode = TokenizerState::Data;
     }
 
     /// Goes on in the text of that element.

@@ -10,20 +10,20 @@ returns-in-EndTagOpen-clause-ends c =
     let l = c.args.self.now in
     handed_end (remaining l []) (in_markup l []) c.end_markup.new.self c.end_markup.result (ap (λ mode. remaining_in mode l []) c.in-EndTagOpen.is ∙ slash_ends l) c.end_markup.ensures.ends
 
-pub returns-in-MarkupDeclaration-clause-ends : goal.returns-in-MarkupDeclaration-clause-ends
-returns-in-MarkupDeclaration-clause-ends c =
+pub returns-in-MarkupDeclarationOpen-clause-ends : goal.returns-in-MarkupDeclarationOpen-clause-ends
+returns-in-MarkupDeclarationOpen-clause-ends c =
     let l = c.args.self.now in
-    handed_end (remaining l []) (in_markup l []) c.end_markup-in-MarkupDeclaration.new.self c.end_markup-in-MarkupDeclaration.result (ap (λ mode. remaining_in mode l []) c.in-MarkupDeclaration.is ∙ declaration_ends l) c.end_markup-in-MarkupDeclaration.ensures.ends
+    handed_end (remaining l []) (in_markup l []) c.end_markup-in-MarkupDeclarationOpen.new.self c.end_markup-in-MarkupDeclarationOpen.result (ap (λ mode. remaining_in mode l []) c.in-MarkupDeclarationOpen.is ∙ declaration_ends l) c.end_markup-in-MarkupDeclarationOpen.ensures.ends
 
-pub returns-in-CommentStart-clause-ends : goal.returns-in-CommentStart-clause-ends
-returns-in-CommentStart-clause-ends c =
+pub returns-in-MarkupDeclarationDash-clause-ends : goal.returns-in-MarkupDeclarationDash-clause-ends
+returns-in-MarkupDeclarationDash-clause-ends c =
     let l = c.args.self.now in
-    handed_end (remaining l []) (in_markup l []) c.end_markup-in-CommentStart.new.self c.end_markup-in-CommentStart.result (ap (λ mode. remaining_in mode l []) c.in-CommentStart.is ∙ comment_ends l) c.end_markup-in-CommentStart.ensures.ends
+    handed_end (remaining l []) (in_markup l []) c.end_markup-in-MarkupDeclarationDash.new.self c.end_markup-in-MarkupDeclarationDash.result (ap (λ mode. remaining_in mode l []) c.in-MarkupDeclarationDash.is ∙ comment_ends l) c.end_markup-in-MarkupDeclarationDash.ensures.ends
 
-pub returns-in-CDataStart-clause-ends : goal.returns-in-CDataStart-clause-ends
-returns-in-CDataStart-clause-ends c =
+pub returns-in-MarkupDeclarationCData-clause-ends : goal.returns-in-MarkupDeclarationCData-clause-ends
+returns-in-MarkupDeclarationCData-clause-ends c =
     let l = c.args.self.now in
-    handed_end (remaining l []) (in_markup l []) c.end_markup-in-CDataStart.new.self c.end_markup-in-CDataStart.result (ap (λ mode. remaining_in mode l []) c.in-CDataStart.is ∙ start_ends l c.in-CDataStart.field-0) c.end_markup-in-CDataStart.ensures.ends
+    handed_end (remaining l []) (in_markup l []) c.end_markup-in-MarkupDeclarationCData.new.self c.end_markup-in-MarkupDeclarationCData.result (ap (λ mode. remaining_in mode l []) c.in-MarkupDeclarationCData.is ∙ start_ends l c.in-MarkupDeclarationCData.field-0) c.end_markup-in-MarkupDeclarationCData.ensures.ends
 
 pub returns-in-TagName-clause-ends : goal.returns-in-TagName-clause-ends
 returns-in-TagName-clause-ends c =

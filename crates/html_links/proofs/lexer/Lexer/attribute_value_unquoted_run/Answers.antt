@@ -1,5 +1,5 @@
 use Rattle.html_links.proofs.Running.{bare_over}
-use Rattle.html_links.proofs.lexer.Lexer.bare_value_run.Goals as goal
+use Rattle.html_links.proofs.lexer.Lexer.attribute_value_unquoted_run.Goals as goal
 
 pub returns-clause-gives : goal.returns-clause-gives
 returns-clause-gives c = λ rest.
