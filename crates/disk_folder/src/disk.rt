@@ -1,5 +1,5 @@
 // What is known of a disk is stated by relations, so that one of which nothing is known meets each clause: that of the system.
-ghost use Rattle.std.specs.Prelude.{◌≡◌, ◌≢◌, ◌⊎◌, ◌≤◌, ◌++◌, [], ℕ, List, Option, Some, None, IfOk, OnOk};
+ghost use Rattle.std.specs.Prelude.{◌≡◌, ◌≢◌, ◌⊎◌, ◌≤◌, ◌++◌, [], ℕ, List, Option, Some, None, IfOk, OnOk, true, false};
 ghost use Rattle.disk_folder.specs.Disks.{Adds, Elapses, HasBytes};
 
 use std::alloc::{AllocError, AllocFailed, Global};
@@ -29,7 +29,8 @@ impl<T: Drop> From<AllocFailed<T>> for DiskError {
     }
 }
 
-/// A folder of a disk that one owner writes to. At most one of its files is open, to which bytes are added.
+/// A folder of a disk that one owner writes to. At most one of its files is open, to which bytes are added. An owner holds a file to keep
+/// others from it, who ask first whether somebody does; a disk whose contents are known has no others.
 ///
 /// What a crash may leave under a name follows from the clauses alone. The bytes that were added since the last sync of the file are
 /// there, or zeros in their place, up to any length; those that were synced are there. A name that was given, or taken, has what it
@@ -40,6 +41,9 @@ pub trait Disk: Drop {
 
     /// The file of this name is known to be the open one.
     ghost opened: { Self → List ℕ → Type 0 };
+
+    /// The open file of this name is known to be held, so that no other owner holds it.
+    ghost held: { Self → List ℕ → Type 0 };
 
     /// This is known to be under a name: a file's bytes, or none.
     ghost seen: { Self → List ℕ → Option (List ℕ) → Type 0 };
@@ -85,14 +89,37 @@ pub trait Disk: Drop {
         ensures stale { (n : List ℕ) (c : Option (List ℕ)) → stale self.new n c → stale self.old n c }
         ensures time { Elapses (moment self.old) (moment self.new) (since self.old) (since self.new) (left self.new) };
 
+    /// Holds the open file until it is closed, whatever name it gets. Whether it is held: it isn't if another owner holds it. The error is
+    /// that files of this disk can't be held.
+    fn hold(&mut self) -> Result<bool, DiskError>
+        ensures held { IfOk result (λ is_held. is_held ≡ true → (n : List ℕ) → opened self.old n → held self.new n) }
+        ensures stays_open { (n : List ℕ) → opened self.old n → opened self.new n }
+        ensures seen { (n : List ℕ) (c : Option (List ℕ)) → seen self.old n c → seen self.new n c }
+        ensures kept { (n x : List ℕ) → kept self.new n x → kept self.old n x }
+        ensures named { (n : List ℕ) → named self.old n → named self.new n }
+        ensures crash { (n : List ℕ) (c : Option (List ℕ)) → left self.new n c → left self.old n c }
+        ensures stale { (n : List ℕ) (c : Option (List ℕ)) → stale self.new n c → stale self.old n c }
+        ensures time { Elapses (moment self.old) (moment self.new) (since self.old) (since self.new) (left self.new) };
+
+    /// Whether another owner holds the file of this name. It isn't asked for a file that this one has open.
+    fn is_anothers(&self, name: &str) -> bool
+        ensures alone { tells → result ≡ false };
+
+    /// Whether the file of this name is still the open one: another owner may have given the name to a file of its own.
+    fn is_open_at(&self, name: &str) -> bool
+        ensures same { opened self.now name.now → result ≡ true };
+
     /// Adds bytes to the open file, by one call. If it fails, some of them may have been added, and nothing is known to be open.
     fn add(&mut self, bytes: &[u8]) -> Result<(), DiskError>
         ensures added { OnOk result ((n x : List ℕ) → opened self.old n → seen self.old n (Some x) → seen self.new n (Some (x ++ bytes.now))) }
         ensures stays_open { OnOk result ((n : List ℕ) → opened self.old n → opened self.new n) }
+        ensures stays_held { (n : List ℕ) → held self.old n → held self.new n }
         ensures named { (n : List ℕ) → named self.old n → named self.new n }
         ensures others { (m n : List ℕ) (c : Option (List ℕ)) → opened self.old m → n ≢ m → seen self.old n c → seen self.new n c }
         ensures others_kept { (m n x : List ℕ) → opened self.old m → n ≢ m → kept self.new n x → kept self.old n x }
         ensures others_left { (m n : List ℕ) (c : Option (List ℕ)) → opened self.old m → n ≢ m → left self.new n c → left self.old n c }
+        // It has the name still, and nothing else is left of it than its bytes.
+        ensures crash { (n x : List ℕ) (c : Option (List ℕ)) → opened self.old n → seen self.old n (Some x) → left self.new n c → stale self.new n c ⊎ ((y : List ℕ) × (c ≡ Some y) × kept self.new n y) }
         ensures torn { (n base tail : List ℕ) → opened self.old n → seen self.old n (Some (base ++ tail)) → Adds base tail bytes.now (kept self.old n) (kept self.new n) }
         ensures stale { (n : List ℕ) (c : Option (List ℕ)) → stale self.new n c → stale self.old n c }
         ensures time { Elapses (moment self.old) (moment self.new) (since self.old) (since self.new) (left self.new) };
@@ -102,6 +129,7 @@ pub trait Disk: Drop {
         ensures durable { OnOk result ((n x y : List ℕ) → opened self.old n → seen self.old n (Some x) → kept self.new n y → y ≡ x) }
         ensures seen { OnOk result ((n : List ℕ) (c : Option (List ℕ)) → seen self.old n c → seen self.new n c) }
         ensures stays_open { OnOk result ((n : List ℕ) → opened self.old n → opened self.new n) }
+        ensures stays_held { (n : List ℕ) → held self.old n → held self.new n }
         ensures named { (n : List ℕ) → named self.old n → named self.new n }
         ensures kept { (n x : List ℕ) → kept self.new n x → kept self.old n x }
         ensures crash { (n : List ℕ) (c : Option (List ℕ)) → left self.new n c → left self.old n c }
@@ -113,15 +141,19 @@ pub trait Disk: Drop {
         ensures durable { OnOk result ((n x : List ℕ) → seen self.old n (Some x) → named self.new n) }
         ensures seen { OnOk result ((n : List ℕ) (c : Option (List ℕ)) → seen self.old n c → seen self.new n c) }
         ensures stays_open { OnOk result ((n : List ℕ) → opened self.old n → opened self.new n) }
+        ensures stays_held { (n : List ℕ) → held self.old n → held self.new n }
         ensures named { (n : List ℕ) → named self.old n → named self.new n }
         ensures kept { (n x : List ℕ) → kept self.new n x → kept self.old n x }
         ensures crash { (n : List ℕ) (c : Option (List ℕ)) → left self.new n c → left self.old n c }
         ensures stale { (n : List ℕ) (c : Option (List ℕ)) → stale self.new n c → stale self.old n c }
         ensures time { Elapses (moment self.old) (moment self.new) (since self.old) (since self.new) (left self.new) };
 
-    /// Gives a file another name, in the place of what is there. No file is open after it.
+    /// Gives a file another name, in the place of what is there. If it is the open one it stays open, and held; after an error nothing is
+    /// known to be open.
     fn rename(&mut self, from: &str, to: &str) -> Result<(), DiskError>
         requires { from.now ≢ to.now }
+        ensures stays_open { OnOk result (opened self.old from.now → opened self.new to.now) }
+        ensures stays_held { OnOk result (held self.old from.now → held self.new to.now) }
         ensures moved { OnOk result ((x : List ℕ) → seen self.old from.now (Some x) → seen self.new to.now (Some x)) }
         ensures kept { OnOk result ((x : List ℕ) → kept self.new to.now x → kept self.old from.now x) }
         ensures gone { tells → OnOk result (seen self.new from.now None) }

@@ -4,7 +4,7 @@ ghost use Rattle.address.specs.AddressOrder.{IsAscending};
 ghost use Rattle.host_system.specs.declared.index_run.BeginFault.TheVariants.{Unfit};
 
 use crate::index_file::{INDEX, index_of, own_path, put_index, tell};
-use crate::journal::{JOURNAL, LeftJournal, SharedJournal, left_at};
+use crate::journal::{JOURNAL, LeftJournal, SharedJournal, left_at, text_of};
 use crate::removed_files::remove_all;
 use crate::shared_failures::SharedFailures;
 use address::Address;
@@ -18,6 +18,7 @@ use mirror_upkeep::{
 };
 use options::{Order, Upkeep};
 use part_keeper::KeptPart;
+use run_journal::Journal;
 use std::alloc::{AllocError, Global};
 use std::fs::Files;
 use std::io::Write;
@@ -85,6 +86,8 @@ pub(crate) struct BegunRun {
     pub(crate) by_name: Vec<usize>,
     // Whether the index that is there says just what is known of earlier pages.
     is_index_there: bool,
+    // Whether bodies whose links change are kept in the program's own directory only until the run is whole.
+    hides_bodies: bool,
 }
 
 impl BegunRun {
@@ -260,6 +263,16 @@ fn gone_of(alloc: Global, begun: &BegunRun, names: &[String]) -> Result<Vec<Stri
     Ok(all)
 }
 
+// The names of the bodies that are kept of these pages in the program's own directory.
+fn hidden_names(alloc: Global, pages: &[Entry]) -> Result<Vec<String>, AllocError> {
+    let mut names = Vec::new(alloc);
+    for page in pages {
+        let name = page.name();
+        names.push(format!(in alloc; ".wgetr%orig/{name}")?)?;
+    }
+    Ok(names)
+}
+
 // Those of these names whose parts have bodies that were received.
 fn renewed_names(
     alloc: Global,
@@ -362,13 +375,14 @@ impl<F: Drop> IndexRun<F> {
                 "-c goes on with it",
             )?;
         }
-        let removes_left = takes_nothing(order.upkeep);
-        let journal = SharedJournal::of(self.alloc, path, first, left, removes_left)?;
-        let journal = if takes_nothing(order.upkeep) {
-            journal
+        let front = if takes_nothing(order.upkeep) {
+            first.as_slice().to_vec(self.alloc)?
         } else {
-            journal.going_on(self.alloc, &pages)?
+            text_of(self.alloc, first.as_slice(), &pages)?
         };
+        let journal = Journal::new(self.alloc, path, front, left);
+        let folder = String::from_str(self.alloc, folder)?;
+        let journal = SharedJournal::of(self.alloc, folder, first, journal);
         set_journal(&mut self.journal.lock(rt), journal);
         Ok(pages)
     }
@@ -446,6 +460,7 @@ impl<F: Drop> IndexRun<F> {
             has_originals: order.names.rules.has_originals,
             by_name: places_by_name(self.alloc, earlier.pages.index().entries())?,
             is_index_there,
+            hides_bodies: order.converts && !order.backs_up && !keeps_index(upkeep),
             before,
             earlier,
         };
@@ -598,7 +613,6 @@ impl<F: Drop> IndexRun<F> {
     fn leave_journal<R: Wait + Files<File = F>>(
         &self,
         rt: &R,
-        own: &str,
         begun: &BegunRun,
         put: &Put,
     ) -> io::Result<()>
@@ -606,9 +620,23 @@ impl<F: Drop> IndexRun<F> {
         F: Write + Lock,
     {
         let pages = joined(self.alloc, begun.earlier.pages.index(), &put.pages)?;
-        self.journal
-            .lock(rt)
-            .write_anew(rt, self.alloc, own, &pages)
+        self.journal.lock(rt).write_anew(rt, self.alloc, &pages)
+    }
+
+    // Removes the bodies in the program's own directory of the pages that were put, and of earlier ones: no run goes on with them.
+    fn remove_hidden<R: Wait + Files>(
+        &self,
+        rt: &R,
+        failures: &SharedFailures,
+        begun: &BegunRun,
+        put: &Put,
+    ) -> Result<(), AllocError> {
+        let folder = begun.folder.as_str();
+        for pages in [&put.pages, begun.earlier.pages.index()].as_slice() {
+            let names = hidden_names(self.alloc, pages.entries())?;
+            remove_all(rt, self.alloc, failures, folder, names.as_slice());
+        }
+        Ok(())
     }
 
     /// The run has ended, and with all that was to be retrieved if that is said. If its files were put the index is written, if one is kept,
@@ -636,11 +664,15 @@ impl<F: Drop> IndexRun<F> {
                 failures.fail(rt, INDEX, &error);
             }
         }
-        let is_done = begun.keeps_index() || (put.is_all && !put.is_cut_off);
-        if is_whole && is_done {
-            self.journal.lock(rt).remove(rt);
-        } else if begun.notes_pages() {
-            if let Err(error) = self.leave_journal(rt, own, &begun, &put) {
+        let is_done = is_whole && (begun.keeps_index() || (put.is_all && !put.is_cut_off));
+        self.journal.lock(rt).end(rt, is_done);
+        if is_done && begun.hides_bodies {
+            if self.remove_hidden(rt, failures, &begun, &put).is_err() {
+                failures.say(rt, "bodies in .wgetr%orig stay: out of memory\n");
+            }
+        }
+        if !is_done && begun.notes_pages() {
+            if let Err(error) = self.leave_journal(rt, &begun, &put) {
                 failures.fail(rt, JOURNAL, &error);
             }
         }

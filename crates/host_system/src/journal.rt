@@ -1,13 +1,15 @@
 //! The journal of each run, below its folder: the pages whose files are there already, so that another run goes on if this one is stopped.
-//! Its first line has its version and the STARTs, and each further one is an entry as the index has them, added in one write.
+//! Its first line has its version and the STARTs, and each further one is an entry as the index has them. How it is written is
+//! `run_journal`'s.
 use mirror_index::{MAX_INDEX, MirrorIndex};
 use mirror_upkeep::{push_entry, read_journal, reason};
+use run_journal::Journal;
 use std::alloc::{AllocError, Global};
-use std::fs::{File, Files, OpenFile};
+use std::fs::{File, Files};
 use std::io;
-use std::io::{ErrorKind, Write};
-use std::os::unix::fs::MetadataExt;
-use streams::{Close, Lock, ReadInputFault, read_input};
+use std::io::{Error, ErrorKind, Write};
+use streams::{Lock, ReadInputFault, read_input};
+use system_disk::{SystemDisk, SystemFolder};
 
 /// What it is called, directly below the folder. No page has a name that begins so.
 pub(crate) const JOURNAL: &str = ".wgetr%journal";
@@ -78,122 +80,59 @@ where
     pages_in(alloc, file, first)
 }
 
-// Whether a run that is at work has its journal at a path.
-fn is_theirs<R: Files>(rt: &R, path: &str) -> bool
-where
-    R::File: Lock,
-{
-    match rt.symlink_metadata(path) {
-        Ok(found) if found.is_file() => {}
-        _ => return false,
+/// The text of a journal with this first line and these pages.
+pub(crate) fn text_of(
+    alloc: Global,
+    first: &[u8],
+    pages: &MirrorIndex,
+) -> Result<Vec<u8>, AllocError> {
+    let mut text = first.to_vec(alloc)?;
+    for entry in pages.entries() {
+        push_entry(alloc, &mut text, entry)?;
     }
-    match File::open(rt, path) {
-        Ok(file) => !file.hold().unwrap_or(true),
-        Err(_) => false,
-    }
+    Ok(text)
 }
 
-// Whether an open file is still the one at a path: another run may have put its own there.
-fn is_at<R: Files>(rt: &R, file: &R::File, path: &str) -> bool {
-    match (file.metadata(), rt.symlink_metadata(path)) {
-        (Ok(opened), Ok(found)) => opened.dev() == found.dev() && opened.ino() == found.ino(),
-        _ => false,
-    }
-}
-
-/// The journal of a run, to which its workers add under a lock.
+/// The journal of a run on the disk, to which its workers add under a lock.
 #[derive(Drop)]
 pub(crate) struct SharedJournal<F: Drop> {
-    path: String,
-    // Whether pages are added.
-    is_open: bool,
+    journal: Journal<F>,
+    folder: SystemFolder<F>,
     // Its first line.
     first: Vec<u8>,
-    // What it begins with.
-    front: Vec<u8>,
-    // The one that was left at its place, which is held until it is replaced.
-    left: Option<F>,
-    // Whether that is removed at the end, if this run has none of its own.
-    removes_left: bool,
-    // None before the first page.
-    file: Option<F>,
+    // The path of the file that it begins as. Empty before the first page.
+    part: String,
 }
 
-// Makes a journal at a path, with this front, by way of a file in the run's own directory. It takes the place of what is there.
-fn make<R: Files>(rt: &R, alloc: Global, own: &str, path: &str, front: &[u8]) -> io::Result<R::File>
-where
-    R::File: Lock,
-{
-    let part = format!(in alloc; "{own}/journal")?;
-    let mut file = File::create_new(rt, part.as_str())?;
-    file.hold()?;
-    file.write_all(front)?;
-    rt.rename(part.as_str(), path)?;
-    Ok(file)
+// What the system said of the call that failed.
+fn error_of<F: Drop>(folder: &mut SystemFolder<F>) -> Error {
+    folder.take_error().unwrap_or(Error::from(ErrorKind::Other))
 }
 
 impl<F: Drop> SharedJournal<F> {
     /// None is kept. Takes no memory.
     pub(crate) fn none(alloc: Global) -> SharedJournal<F> {
         SharedJournal {
-            path: String::new(alloc),
-            is_open: false,
+            journal: Journal::none(alloc),
+            folder: SystemFolder::new(String::new(alloc)),
             first: Vec::new(alloc),
-            front: Vec::new(alloc),
-            left: None,
-            removes_left: false,
-            file: None,
+            part: String::new(alloc),
         }
     }
 
-    /// One at this path that begins with this line, in place of the one that was left there, which is held until then. If nothing was added
-    /// when the run has ended well, the one that was left is removed if `removes_left`.
+    /// This one, which has this first line, at a path below a folder.
     pub(crate) fn of(
         alloc: Global,
-        path: String,
+        folder: String,
         first: Vec<u8>,
-        left: Option<F>,
-        removes_left: bool,
-    ) -> Result<SharedJournal<F>, AllocError> {
-        Ok(SharedJournal {
-            path,
-            is_open: true,
-            front: first.as_slice().to_vec(alloc)?,
+        journal: Journal<F>,
+    ) -> SharedJournal<F> {
+        SharedJournal {
+            journal,
+            folder: SystemFolder::new(folder),
             first,
-            left,
-            removes_left,
-            file: None,
-        })
-    }
-
-    /// The same, which begins with these pages of the one that was left, too, and is removed with it.
-    pub(crate) fn going_on(
-        self,
-        alloc: Global,
-        pages: &MirrorIndex,
-    ) -> Result<SharedJournal<F>, AllocError> {
-        let mut journal = self;
-        for entry in pages.entries() {
-            push_entry(alloc, &mut journal.front, entry)?;
+            part: String::new(alloc),
         }
-        journal.removes_left = true;
-        Ok(journal)
-    }
-
-    // Makes it in the run's own directory, unless another run that is at work has its own there by now. Whether it did.
-    fn begin<R: Files<File = F>>(&mut self, rt: &R, alloc: Global, own: &str) -> io::Result<bool>
-    where
-        F: Write + Lock,
-    {
-        let path = self.path.as_str();
-        if self.left.is_none() && is_theirs(rt, path) {
-            return Ok(false);
-        }
-        let file = make(rt, alloc, own, path, self.front.as_slice())?;
-        self.left = None;
-        self.front = Vec::new(alloc);
-        self.file = Some(file);
-        Ok(true)
     }
 
     /// Adds the line of an entry, by way of the run's own directory if it is the first. After an error nothing more is added.
@@ -207,19 +146,14 @@ impl<F: Drop> SharedJournal<F> {
     where
         F: Write + Lock,
     {
-        if !self.is_open {
-            return Ok(());
+        if self.part.is_empty() {
+            self.part = format!(in alloc; "{own}/journal")?;
         }
-        // It is open again if this one is added.
-        self.is_open = false;
-        if self.file.is_none() && !self.begin(rt, alloc, own)? {
-            return Ok(());
+        let mut disk = SystemDisk::new(rt, &mut self.folder);
+        match self.journal.add(&mut disk, self.part.as_str(), line) {
+            Ok(_) => Ok(()),
+            Err(_) => Err(error_of(&mut self.folder)),
         }
-        if let Some(file) = &mut self.file {
-            file.write_all(line)?;
-        }
-        self.is_open = true;
-        Ok(())
     }
 
     /// Has it say just these pages: the run has ended, and is gone on with by these. If that fails it stays as it is.
@@ -227,41 +161,28 @@ impl<F: Drop> SharedJournal<F> {
         &mut self,
         rt: &R,
         alloc: Global,
-        own: &str,
         pages: &MirrorIndex,
     ) -> io::Result<()>
     where
         F: Write + Lock,
     {
-        let path = self.path.as_str();
-        let is_own = match &self.file {
-            Some(file) => is_at(rt, file, path),
-            None => false,
-        };
-        if !is_own {
-            return Ok(());
+        let text = text_of(alloc, self.first.as_slice(), pages)?;
+        let mut disk = SystemDisk::new(rt, &mut self.folder);
+        match self
+            .journal
+            .renew(&mut disk, self.part.as_str(), text.as_slice())
+        {
+            Ok(_) => Ok(()),
+            Err(_) => Err(error_of(&mut self.folder)),
         }
-        let mut text = self.first.as_slice().to_vec(alloc)?;
-        for entry in pages.entries() {
-            push_entry(alloc, &mut text, entry)?;
-        }
-        let file = make(rt, alloc, own, path, text.as_slice())?;
-        self.file = Some(file);
-        Ok(())
     }
 
-    /// Takes it away, and the one that it goes on from: the run has ended well.
-    pub(crate) fn remove<R: Files<File = F>>(&mut self, rt: &R) {
-        let path = self.path.as_str();
-        let is_own = match &self.file {
-            Some(file) => is_at(rt, file, path),
-            None => self.removes_left && self.left.is_some(),
-        };
-        if is_own {
-            let _ = rt.remove_file(path);
-        }
-        self.is_open = false;
-        self.file = None;
-        self.left = None;
+    /// The run has ended. If it is whole its journal is removed, and the one that it goes on from.
+    pub(crate) fn end<R: Files<File = F>>(&mut self, rt: &R, is_whole: bool)
+    where
+        F: Lock,
+    {
+        let mut disk = SystemDisk::new(rt, &mut self.folder);
+        let _ = self.journal.end(&mut disk, is_whole);
     }
 }

@@ -1,5 +1,5 @@
-ghost use Rattle.std.specs.Prelude.{◌≡◌, ◌≤◌, option_map, drop, length, [], OnOk};
-ghost use Rattle.memory_disk.specs.Acts.{file_at};
+ghost use Rattle.std.specs.Prelude.{◌≡◌, ◌≤◌, option_map, drop, length, [], IfOk, OnOk};
+ghost use Rattle.memory_disk.specs.Acts.{IsOpen, file_at};
 
 use disk_folder::{Disk, DiskError};
 use std::alloc::{AllocError, Global};
@@ -55,6 +55,21 @@ fn stands<'a>(acts: &'a [Act], name: &str) -> Option<&'a [u8]>
     }
 }
 
+// The name of the open file after another name was given to the file of this one. None is known if that was another file.
+fn renamed(
+    alloc: Global,
+    was: &Option<String>,
+    from: &str,
+    to: &str,
+) -> Result<Option<String>, AllocError>
+    ensures { IfOk result (λ is. IsOpen was.now from.now → IsOpen is to.now) }
+{
+    match was {
+        Some(name) if name.as_str() == from => Ok(Some(String::from_str(alloc, to)?)),
+        _ => Ok(None),
+    }
+}
+
 impl MemoryDisk {
     /// An empty disk.
     pub fn new(alloc: Global) -> MemoryDisk
@@ -105,6 +120,8 @@ impl Disk for MemoryDisk {
 
     ghost opened = { λ m n. IsOpen m.open n };
 
+    ghost held = { λ _ _. Unit {0} };
+
     ghost seen = { λ m n c. c ≡ file_at m.acts.items n };
 
     ghost named = { λ m n. (b : List ℕ) × (file_at m.acts.items n ≡ Some b) };
@@ -148,6 +165,21 @@ impl Disk for MemoryDisk {
         Ok(())
     }
 
+    fn hold(&mut self) -> Result<bool, DiskError> {
+        Ok(self.open.is_some())
+    }
+
+    fn is_anothers(&self, _name: &str) -> bool {
+        false
+    }
+
+    fn is_open_at(&self, name: &str) -> bool {
+        match &self.open {
+            Some(at) => at.as_str() == name,
+            None => false,
+        }
+    }
+
     fn add(&mut self, bytes: &[u8]) -> Result<(), DiskError> {
         let Some(open) = &self.open else {
             return Err(DiskError::Closed);
@@ -177,8 +209,9 @@ impl Disk for MemoryDisk {
         let bytes = bytes.to_vec(self.alloc)?;
         let left = String::from_str(self.alloc, from)?;
         let at = String::from_str(self.alloc, to)?;
+        let open = renamed(self.alloc, &self.open, from, to)?;
         self.acts.insert(0, Act::Moved(left, at, bytes))?;
-        self.open = None;
+        self.open = open;
         Ok(())
     }
 

@@ -51,10 +51,10 @@ settings_of order is_recording =
     record { links = order.links; is_recording = is_recording; kept = kept_of order; proxies = order.proxies; sends = sending_of order; manner = order.manner; retries = retries_by order.retries; takes_times = order.takes_times }
 
 -- where an order keeps bodies as they came whose links change: beside their files if it says so, and if not, for later runs alone, if it
--- keeps an index
+-- takes pages of earlier ones
 abbrev pub originals_of : Order → Originals
 originals_of order =
-    if order.backs_up then Beside else (if order.converts && (order.upkeep.timestamps || order.upkeep.skips) then Hidden else Nowhere)
+    if order.backs_up then Beside else (if order.converts && (order.upkeep.continues || (order.upkeep.timestamps || order.upkeep.skips)) then Hidden else Nowhere)
 
 -- the bytes are a record, whose entries, all or without those that failed, say this; if it is saved again its notes say the same
 abbrev pub IsRecordTaken : Bool → Bool → LinkRules → List ℕ → RecordValue → Type 0

@@ -96,10 +96,11 @@ fn recorders_of<S: System>(
 fn originals_of(order: &Order) -> Originals
     ensures { result ≡ originals_of order.now }
 {
-    let keeps_index = order.upkeep.timestamps || order.upkeep.skips;
+    let upkeep = order.upkeep;
+    let takes_pages = upkeep.continues || (upkeep.timestamps || upkeep.skips);
     if order.backs_up {
         Originals::Beside
-    } else if order.converts && keeps_index {
+    } else if order.converts && takes_pages {
         Originals::Hidden
     } else {
         Originals::Nowhere

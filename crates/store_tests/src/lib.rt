@@ -1,10 +1,11 @@
-//! Runs of a store that are stopped at each moment.
+//! Runs of a store, and of a journal, that are stopped at each moment.
 #![tactic(auto)]
 
 #[cfg(test)]
 mod tests {
     use disk_folder::{Disk, DiskError};
     use memory_disk::MemoryDisk;
+    use run_journal::Journal;
     use run_store::{Index, add, begin, finish, name, recover};
     use std::alloc::Global;
     use std::test::Fail;
@@ -61,6 +62,66 @@ mod tests {
             }
         }
         Ok((bad, recovered(alloc, 0)?.len()))
+    }
+
+    const JOURNAL: &str = "first\none\ntwo\n";
+
+    const RENEWED: &str = "first\ntwo\n";
+
+    // A run that adds two lines to a journal, in place of one that was left, and leaves one line of it unless it is whole. Nothing of it
+    // fails.
+    fn journal(alloc: Global, is_whole: bool) -> Result<MemoryDisk, DiskError> {
+        let mut disk = MemoryDisk::new(alloc);
+        begin(&mut disk, "journal")?;
+        add(&mut disk, b"left\n")?;
+        let name = String::from_str(alloc, "journal")?;
+        let front = String::from_str(alloc, "first\n")?;
+        let mut journal = Journal::new(alloc, name, front.into_bytes(), Some(()));
+        journal.add(&mut disk, "part", b"one\n")?;
+        journal.add(&mut disk, "part", b"two\n")?;
+        journal.end(&mut disk, is_whole)?;
+        if !is_whole {
+            journal.renew(&mut disk, "part", RENEWED.as_bytes())?;
+        }
+        Ok(disk)
+    }
+
+    // Whether so many moments before its end the journal is the one that was left, or a front of the new one.
+    fn is_journal(disk: &MemoryDisk, ago: usize) -> bool {
+        if ago > disk.moments() {
+            return false;
+        }
+        match disk.stood(ago, "journal") {
+            Some(text) => {
+                text == b"left\n".as_slice()
+                    || JOURNAL.as_bytes().starts_with(text)
+                    || text == RENEWED.as_bytes()
+            }
+            None => false,
+        }
+    }
+
+    // How many moments don't hold, how long the journal is at the end, and whether it stays after a whole run.
+    fn journals(alloc: Global) -> Result<(usize, usize, bool), DiskError> {
+        let disk = journal(alloc, false)?;
+        let mut bad = 0usize;
+        for ago in 0..disk.moments() {
+            if !is_journal(&disk, ago) {
+                bad = bad.saturating_add(1);
+            }
+        }
+        let len = match disk.stood(0, "journal") {
+            Some(text) => text.len(),
+            None => 0,
+        };
+        let whole = journal(alloc, true)?;
+        Ok((bad, len, whole.stood(0, "journal").is_some()))
+    }
+
+    #[test]
+    fn each_moment_leaves_a_journal(rt: HostRuntime) -> Result<(), Fail> {
+        assert_eq!(rt; journals(rt.alloc()), Ok((0, RENEWED.len(), false)));
+        Ok(())
     }
 
     #[test]

@@ -1,4 +1,5 @@
-//! A folder of the system. Each call is one of the system's, and nothing is decided here: what a disk is said to do is trusted.
+//! A disk of the system, whose names are paths. Each call is one of the system's, and nothing is decided here: what a disk is said to do is
+//! trusted.
 #![tactic(auto)]
 
 use disk_folder::{Disk, DiskError};
@@ -6,57 +7,72 @@ use std::alloc::Global;
 use std::fs::{File, Files, OpenFile};
 use std::io;
 use std::io::{ErrorKind, Read, Write};
+use std::os::unix::fs::MetadataExt;
+use streams::Lock;
 
-/// A folder that is there.
+/// A folder of the system without the program's handle, so that it can be kept: its path, the open file, and why the last call failed.
+#[derive(Drop)]
+pub struct SystemFolder<F: Drop> {
+    path: String,
+    file: Option<F>,
+    why: Option<io::Error>,
+}
+
+impl<F: Drop> SystemFolder<F> {
+    /// The folder at this path, which needn't be there yet. No file is open.
+    pub fn new(path: String) -> SystemFolder<F> {
+        SystemFolder {
+            path,
+            file: None,
+            why: None,
+        }
+    }
+
+    /// What the system said of the last call that failed, unless it was taken. Nothing is there if it wasn't the system that failed.
+    pub fn take_error(&mut self) -> Option<io::Error> {
+        self.why.take()
+    }
+
+    // An answer of the system, of which the error is kept for a person.
+    fn told<T>(&mut self, answer: io::Result<T>) -> Result<T, DiskError> {
+        match answer {
+            Ok(value) => Ok(value),
+            Err(error) => {
+                let is_name = error.kind() == ErrorKind::AlreadyExists;
+                self.why = Some(error);
+                Err(if is_name {
+                    DiskError::Name
+                } else {
+                    DiskError::Failed
+                })
+            }
+        }
+    }
+}
+
+/// A folder of the system, by the program's handle.
 #[derive(Drop)]
 pub struct SystemDisk<'a, R: Files> {
     rt: &'a R,
-    alloc: Global,
-    path: String,
-    folder: R::File,
-    file: Option<R::File>,
+    folder: &'a mut SystemFolder<R::File>,
 }
 
 impl<'a, R: Files> SystemDisk<'a, R> {
-    /// The folder at this path.
-    pub fn open(rt: &'a R, alloc: Global, path: String) -> io::Result<SystemDisk<'a, R>> {
-        let folder = File::open(rt, path.as_str())?;
-        Ok(SystemDisk {
-            rt,
-            alloc,
-            path,
-            folder,
-            file: None,
-        })
-    }
-
-    // The path of a name.
-    fn place(&self, name: &str) -> Result<String, DiskError> {
-        let path = self.path.as_str();
-        Ok(format!(in self.alloc; "{path}/{name}")?)
+    /// This folder.
+    pub fn new(rt: &'a R, folder: &'a mut SystemFolder<R::File>) -> SystemDisk<'a, R> {
+        SystemDisk { rt, folder }
     }
 }
 
-// What is reported of it to a person is kept elsewhere.
-fn told<T>(answer: io::Result<T>) -> Result<T, DiskError> {
-    match answer {
-        Ok(value) => Ok(value),
-        Err(e) if e.kind() == ErrorKind::AlreadyExists => Err(DiskError::Name),
-        Err(_) => Err(DiskError::Failed),
-    }
-}
-
-// All that a file has from its beginning on.
-fn read_all<F: Read>(alloc: Global, file: &mut F) -> Result<Vec<u8>, DiskError> {
-    let mut bytes = Vec::new(alloc);
-    told(file.read_to_end(&mut bytes))?;
-    Ok(bytes)
-}
-
-impl<'a, R: Files> Disk for SystemDisk<'a, R> {
+impl<'a, R: Files> Disk for SystemDisk<'a, R>
+where
+    R::File: Lock,
+{
     ghost tells = { ⊥ };
 
     ghost opened = { λ _ _. ⊥ };
+
+    ghost held = { λ _ _. ⊥ };
 
     ghost seen = { λ _ _ _. ⊥ };
 
@@ -83,56 +99,92 @@ impl<'a, R: Files> Disk for SystemDisk<'a, R> {
     ghost only_now = { λ disk n c since. since };
 
     fn make(&mut self, name: &str) -> Result<(), DiskError> {
-        let place = self.place(name)?;
-        self.file = Some(told(File::create_new(self.rt, place.as_str()))?);
+        let made = File::create_new(self.rt, name);
+        let file = self.folder.told(made)?;
+        self.folder.file = Some(file);
         Ok(())
     }
 
     fn reopen(&mut self, name: &str) -> Result<(), DiskError> {
-        let place = self.place(name)?;
-        let file = File::options().append(true).open(self.rt, place.as_str());
-        self.file = Some(told(file)?);
+        let opened = File::options().append(true).open(self.rt, name);
+        let file = self.folder.told(opened)?;
+        self.folder.file = Some(file);
         Ok(())
     }
 
-    fn add(&mut self, bytes: &[u8]) -> Result<(), DiskError> {
-        match &mut self.file {
-            Some(file) => told(file.write_all(bytes)),
-            None => Err(DiskError::Closed),
+    fn hold(&mut self) -> Result<bool, DiskError> {
+        let held = match &self.folder.file {
+            Some(file) => file.hold(),
+            None => return Err(DiskError::Closed),
+        };
+        self.folder.told(held)
+    }
+
+    // Nothing but a file is opened: a link isn't followed, and a pipe would make it wait.
+    fn is_anothers(&self, name: &str) -> bool {
+        match self.rt.symlink_metadata(name) {
+            Ok(found) if found.is_file() => {}
+            _ => return false,
         }
+        match File::open(self.rt, name) {
+            Ok(file) => !file.hold().unwrap_or(true),
+            Err(_) => false,
+        }
+    }
+
+    fn is_open_at(&self, name: &str) -> bool {
+        let Some(file) = &self.folder.file else {
+            return false;
+        };
+        match (file.metadata(), self.rt.symlink_metadata(name)) {
+            (Ok(opened), Ok(found)) => opened.dev() == found.dev() && opened.ino() == found.ino(),
+            _ => false,
+        }
+    }
+
+    fn add(&mut self, bytes: &[u8]) -> Result<(), DiskError> {
+        let added = match &mut self.folder.file {
+            Some(file) => file.write_all(bytes),
+            None => return Err(DiskError::Closed),
+        };
+        self.folder.told(added)
     }
 
     fn sync(&mut self) -> Result<(), DiskError> {
-        match &self.file {
-            Some(file) => told(file.sync_data()),
-            None => Err(DiskError::Closed),
-        }
+        let synced = match &self.folder.file {
+            Some(file) => file.sync_data(),
+            None => return Err(DiskError::Closed),
+        };
+        self.folder.told(synced)
     }
 
     fn sync_names(&mut self) -> Result<(), DiskError> {
-        told(self.folder.sync_all())
+        let opened = File::open(self.rt, self.folder.path.as_str());
+        let names = self.folder.told(opened)?;
+        self.folder.told(names.sync_all())
     }
 
     fn rename(&mut self, from: &str, to: &str) -> Result<(), DiskError> {
-        self.file = None;
-        let from = self.place(from)?;
-        let to = self.place(to)?;
-        told(self.rt.rename(from.as_str(), to.as_str()))
+        let renamed = self.rt.rename(from, to);
+        self.folder.told(renamed)
     }
 
+    // The file is closed, and not held any more, after its name is gone.
     fn remove(&mut self, name: &str) -> Result<(), DiskError> {
-        self.file = None;
-        let place = self.place(name)?;
-        told(self.rt.remove_file(place.as_str()))
+        let removed = self.rt.remove_file(name);
+        self.folder.file = None;
+        self.folder.told(removed)
     }
 
     fn read(&mut self, alloc: Global, name: &str) -> Result<Option<Vec<u8>>, DiskError> {
-        let place = self.place(name)?;
-        match File::open(self.rt, place.as_str()) {
+        match File::open(self.rt, name) {
             Err(e) if e.kind() == ErrorKind::NotFound => Ok(None),
             opened => {
-                let mut file = told(opened)?;
-                Ok(Some(read_all(alloc, &mut file)?))
+                let mut file = self.folder.told(opened)?;
+                let mut bytes = Vec::new(alloc);
+                let read = file.read_to_end(&mut bytes);
+                self.folder.told(read)?;
+                Ok(Some(bytes))
             }
         }
     }
