@@ -28,15 +28,15 @@ field_length f fs = omega (arith, length-append (escaped f) (32 ∷ fields_text 
 eight : (a b c d e f g h : Text) → length (fields_text (a ∷ b ∷ c ∷ d ∷ e ∷ f ∷ g ∷ h ∷ []))
     ≤ 2 * length a + 2 * length b + 2 * length c + 2 * length d + 2 * length e + 2 * length f + 2 * length g + 2 * length h + 8
 eight a b c d e f g h = omega (
-    arith,
-    field_length a (b ∷ c ∷ d ∷ e ∷ f ∷ g ∷ h ∷ []),
-    field_length b (c ∷ d ∷ e ∷ f ∷ g ∷ h ∷ []),
-    field_length c (d ∷ e ∷ f ∷ g ∷ h ∷ []),
-    field_length d (e ∷ f ∷ g ∷ h ∷ []),
-    field_length e (f ∷ g ∷ h ∷ []),
-    field_length f (g ∷ h ∷ []),
-    field_length g (h ∷ []),
-    field_length h []
+  arith,
+  field_length a (b ∷ c ∷ d ∷ e ∷ f ∷ g ∷ h ∷ []),
+  field_length b (c ∷ d ∷ e ∷ f ∷ g ∷ h ∷ []),
+  field_length c (d ∷ e ∷ f ∷ g ∷ h ∷ []),
+  field_length d (e ∷ f ∷ g ∷ h ∷ []),
+  field_length e (f ∷ g ∷ h ∷ []),
+  field_length f (g ∷ h ∷ []),
+  field_length g (h ∷ []),
+  field_length h [],
 )
 
 -- texts of few bytes make no long line
@@ -47,10 +47,10 @@ line_length e parts address name kind tag changed =
     let status : length (decimal e.head.status) ≤ 5 = length-decimal-le 5 e.head.status (omega arith) (omega (arith, parts.status)) (omega (arith, parts.status)) in
     let mark : length (mark_field e.mark) ≤ 64 = mark_length e.mark parts.mark in
     omega (
-        arith,
-        length-append (fields_text (entry_fields e)) (check_of (fields_text (entry_fields e))),
-        check_length (fields_text (entry_fields e)),
-        eight e.address e.name (decimal e.size) (mark_field e.mark) (decimal e.head.status) (value_field e.head.content_type) (value_field e.head.etag) (value_field e.head.last_modified)
+      arith,
+      length-append (fields_text (entry_fields e)) (check_of (fields_text (entry_fields e))),
+      check_length (fields_text (entry_fields e)),
+      eight e.address e.name (decimal e.size) (mark_field e.mark) (decimal e.head.status) (value_field e.head.content_type) (value_field e.head.etag) (value_field e.head.last_modified),
     )
 
 -- the same of texts that are an entry's
