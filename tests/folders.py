@@ -1,8 +1,9 @@
 """What a run left in a folder."""
 import os
 
-# The program's own in the folder of pages: the index of a mirror, the journal of a run that hasn't ended well, and bodies as they came.
-OWN = (".wgetr%index", ".wgetr%journal", ".wgetr%orig")
+# The program's own in the folder of pages: the index of a mirror and of which STARTs it is, the journal of a run that hasn't ended well, and
+# bodies as they came.
+OWN = (".wgetr%index", ".wgetr%starts", ".wgetr%journal", ".wgetr%orig")
 
 
 def files_below(folder, own=False):

@@ -2,12 +2,15 @@
 ghost use Rattle.std.specs.Prelude.{◌≡◌, ◌++◌, ◌∷◌, IfOk, string_bytes};
 
 use crate::journal::is_nothing;
+use crate::page_files::is_any_there;
 use crate::shared_failures::SharedFailures;
+use earlier_pages::changed_at;
 use mirror_index::{IndexFault, MAX_INDEX, MirrorIndex, read_index, write_index};
 use std::alloc::{AllocError, Global};
 use std::fs::{File, Files};
 use std::io;
 use std::io::ErrorKind;
+use std::os::unix::fs::MetadataExt;
 use std::sync::Wait;
 use streams::{Close, ReadInputFault, read_input};
 
@@ -19,6 +22,34 @@ pub(crate) fn own_path(alloc: Global, folder: &str, name: &str) -> Result<String
     ensures { IfOk result (λ path. string_bytes path ≡ folder.now ++ 47 ∷ name.now) }
 {
     format!(in alloc; "{folder}/{name}")
+}
+
+/// By what one sees whether the index at a path is the one that was there before.
+#[derive(Clone, Copy, Debug, PartialEq, Eq)]
+pub(crate) struct IndexSight {
+    dev: u64,
+    ino: u64,
+    len: u64,
+    changed: Option<u64>,
+}
+
+/// Whether nothing is at the path of an index: not if one can't know.
+pub(crate) fn is_absent<R: Files>(rt: &R, path: &str) -> bool {
+    match rt.symlink_metadata(path) {
+        Ok(_) => false,
+        Err(error) => is_nothing(&error),
+    }
+}
+
+/// What is seen of the index at a path. None if nothing is there.
+pub(crate) fn sight_of<R: Files>(rt: &R, path: &str) -> Option<IndexSight> {
+    let found = rt.symlink_metadata(path).ok()?;
+    Some(IndexSight {
+        dev: found.dev(),
+        ino: found.ino(),
+        len: found.len(),
+        changed: changed_at(&found),
+    })
 }
 
 /// Says to a person what is so with a file of the program's own, and what follows.
@@ -36,6 +67,7 @@ pub(crate) fn tell<R: Wait>(
 }
 
 // Why there is no index.
+#[derive(Drop)]
 enum Unread {
     // There is nothing.
     Nothing,
@@ -78,6 +110,30 @@ fn read_at<R: Files>(rt: &R, alloc: Global, path: &str) -> Result<MirrorIndex, U
 /// What follows if an index can't be used.
 const ALL_ASKED: &str = "each page is requested";
 
+// Whether an index is of another folder: it has pages, and no file of any is in this one.
+fn is_elsewhere<R: Files>(
+    rt: &R,
+    alloc: Global,
+    folder: &str,
+    index: &MirrorIndex,
+) -> Result<bool, AllocError> {
+    let entries = index.entries();
+    Ok(!entries.is_empty() && !is_any_there(rt, alloc, folder, entries)?)
+}
+
+/// The index at a path, if it can be used. Nobody is told why it can't. Fails only if memory runs out.
+pub(crate) fn index_at<R: Files>(
+    rt: &R,
+    alloc: Global,
+    path: &str,
+) -> Result<Option<MirrorIndex>, AllocError> {
+    match read_at(rt, alloc, path) {
+        Ok(index) => Ok(Some(index)),
+        Err(Unread::Memory) => Err(AllocError),
+        Err(_) => Ok(None),
+    }
+}
+
 /// The index of a folder, if there is one that can be used. If what is there can't, a person is told. Fails only if memory runs out.
 pub(crate) fn index_of<R: Files + Wait>(
     rt: &R,
@@ -88,7 +144,13 @@ pub(crate) fn index_of<R: Files + Wait>(
     let path = own_path(alloc, folder, INDEX)?;
     let path = path.as_str();
     match read_at(rt, alloc, path) {
-        Ok(index) => return Ok(Some(index)),
+        Ok(index) => {
+            if !is_elsewhere(rt, alloc, folder, &index)? {
+                return Ok(Some(index));
+            }
+            let why = "none of its files is here";
+            tell(rt, alloc, failures, path, why, ALL_ASKED)?;
+        }
         Err(Unread::Nothing) => {}
         Err(Unread::Unused(why)) => tell(rt, alloc, failures, path, why, ALL_ASKED)?,
         Err(Unread::Line(line)) => {

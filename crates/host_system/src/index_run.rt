@@ -3,7 +3,9 @@ ghost use Rattle.std.specs.Prelude.{◌≡◌, ◌||◌, Err, length, not, true}
 ghost use Rattle.address.specs.AddressOrder.{IsAscending};
 ghost use Rattle.host_system.specs.declared.index_run.BeginFault.TheVariants.{Unfit};
 
-use crate::index_file::{INDEX, index_of, own_path, put_index, tell};
+use crate::index_end::IndexEnd;
+use crate::index_file::{INDEX, IndexSight, index_of, own_path, sight_of, tell};
+use crate::index_starts::says_starts;
 use crate::journal::{JOURNAL, LeftJournal, SharedJournal, left_at, text_of};
 use crate::removed_files::remove_all;
 use crate::shared_failures::SharedFailures;
@@ -14,7 +16,7 @@ use harvest::Harvest;
 use local_names::ORIGINAL;
 use mirror_index::{Entry, MirrorIndex};
 use mirror_upkeep::{
-    first_line, gone, in_way, is_same, is_sure, joined, named_pages, outdated, places_by_name,
+    first_line, gone, in_way, is_sure, joined, named_pages, outdated, places_by_name,
 };
 use options::{Order, Upkeep};
 use part_keeper::KeptPart;
@@ -55,15 +57,21 @@ struct KnownPages {
     before: MirrorIndex,
     // Whether the index that is there says just what is known.
     is_index_there: bool,
+    // Whether the index that is there was used.
+    uses_index: bool,
+    // Whether all of them are of runs of this one's STARTs.
+    is_ours: bool,
 }
 
 impl KnownPages {
-    // These pages, and none that were others before.
-    fn just(alloc: Global, pages: MirrorIndex, is_index_there: bool) -> KnownPages {
+    // These pages of runs of the same STARTs, which no index has.
+    fn just(alloc: Global, pages: MirrorIndex) -> KnownPages {
         KnownPages {
             pages,
             before: MirrorIndex::new(alloc),
-            is_index_there,
+            is_index_there: false,
+            uses_index: false,
+            is_ours: true,
         }
     }
 }
@@ -80,14 +88,22 @@ pub(crate) struct BegunRun {
     has_originals: bool,
     /// What is known of earlier runs' pages.
     pub(crate) earlier: Arc<Earlier>,
-    // What the index said of them before pages of a run that was stopped took the places of some.
-    before: MirrorIndex,
+    /// What the index said of them before pages of a run that was stopped took the places of some.
+    pub(crate) before: MirrorIndex,
     /// The places of the earlier pages' entries, in the order of their names.
     pub(crate) by_name: Vec<usize>,
-    // Whether the index that is there says just what is known of earlier pages.
-    is_index_there: bool,
+    /// Whether the index that is there says just what is known of earlier pages.
+    pub(crate) is_index_there: bool,
     // Whether bodies whose links change are kept in the program's own directory only until the run is whole.
     hides_bodies: bool,
+    /// What was seen of the index before it was read. None if there was none.
+    pub(crate) sight: Option<IndexSight>,
+    /// Whether it was used.
+    pub(crate) uses_index: bool,
+    /// The line that names the STARTs.
+    pub(crate) starts: Vec<u8>,
+    /// Whether all that is known of earlier pages is of runs of these.
+    pub(crate) is_ours: bool,
 }
 
 impl BegunRun {
@@ -124,19 +140,21 @@ enum Usable<F> {
     Theirs,
 }
 
-// What a run put.
+/// What a run put.
 #[derive(Drop)]
-struct Put {
-    // Its pages.
-    pages: MirrorIndex,
-    // The names of the files of gone pages; none if no file is to be removed.
-    gone: Vec<String>,
+pub(crate) struct Put {
+    /// Its pages.
+    pub(crate) pages: MirrorIndex,
+    /// The names of the files of gone pages; none if no file is to be removed.
+    pub(crate) gone: Vec<String>,
+    /// The same of pages that the index had before pages of a run that was stopped took the places of some.
+    pub(crate) gone_before: Vec<String>,
     // Whether all of them have their files.
     is_all: bool,
     // Whether a connection to some page was lost or not made. Not before that is known.
     is_cut_off: bool,
-    // Whether what it didn't put is gone. Not before that is known.
-    is_sure: bool,
+    /// Whether what it didn't put is gone. Not before that is known.
+    pub(crate) is_sure: bool,
 }
 
 /// What a run knows of the pages that earlier ones kept, and what it notes of those that it keeps itself, for later ones. All its workers
@@ -243,24 +261,18 @@ fn put_names(
     Ok(all)
 }
 
-// The names of the files of gone pages, by those that a run put; none if no file is to be removed.
-fn gone_of(alloc: Global, begun: &BegunRun, names: &[String]) -> Result<Vec<String>, AllocError> {
+// The names of the files of those of these pages that are gone, by the names that a run put; none if no file is to be removed.
+fn gone_of(
+    alloc: Global,
+    begun: &BegunRun,
+    pages: &MirrorIndex,
+    names: &[String],
+) -> Result<Vec<String>, AllocError> {
     if !begun.upkeep.deletes_gone {
         return Ok(Vec::new(alloc));
     }
     let put = put_names(alloc, names, begun.has_originals)?;
-    let earlier = begun.earlier.pages.index();
-    let mut all = gone(alloc, earlier.entries(), put.as_slice(), begun.backs_up)?;
-    let before = gone(
-        alloc,
-        begun.before.entries(),
-        put.as_slice(),
-        begun.backs_up,
-    )?;
-    for name in before.as_slice() {
-        all.push(String::from_str(alloc, name.as_str())?)?;
-    }
-    Ok(all)
+    gone(alloc, pages.entries(), put.as_slice(), begun.backs_up)
 }
 
 // The names of the bodies that are kept of these pages in the program's own directory.
@@ -394,6 +406,7 @@ impl<F: Drop> IndexRun<F> {
         failures: &SharedFailures,
         folder: &str,
         upkeep: Upkeep,
+        starts: &[u8],
         stopped: MirrorIndex,
     ) -> Result<KnownPages, AllocError> {
         if !keeps_index(upkeep) {
@@ -402,17 +415,28 @@ impl<F: Drop> IndexRun<F> {
             } else {
                 MirrorIndex::new(self.alloc)
             };
-            return Ok(KnownPages::just(self.alloc, pages, false));
+            return Ok(KnownPages::just(self.alloc, pages));
         }
-        match index_of(rt, self.alloc, failures, folder)? {
-            Some(index) if stopped.len() == 0 => Ok(KnownPages::just(self.alloc, index, true)),
-            Some(index) => Ok(KnownPages {
-                pages: joined(self.alloc, &index, &stopped)?,
-                before: index,
-                is_index_there: false,
-            }),
-            None => Ok(KnownPages::just(self.alloc, stopped, false)),
+        let Some(index) = index_of(rt, self.alloc, failures, folder)? else {
+            return Ok(KnownPages::just(self.alloc, stopped));
+        };
+        let is_ours = says_starts(rt, self.alloc, folder, starts);
+        if stopped.len() == 0 {
+            return Ok(KnownPages {
+                pages: index,
+                before: stopped,
+                is_index_there: true,
+                uses_index: true,
+                is_ours,
+            });
         }
+        Ok(KnownPages {
+            pages: joined(self.alloc, &index, &stopped)?,
+            before: index,
+            is_index_there: false,
+            uses_index: true,
+            is_ours,
+        })
     }
 
     // These pages of earlier runs below a folder.
@@ -447,11 +471,24 @@ impl<F: Drop> IndexRun<F> {
         let upkeep = order.upkeep;
         let folder = String::from_str(self.alloc, order.prefix.as_str())?;
         let stopped = self.begin_journal(rt, failures, folder.as_str(), order)?;
+        let plan = &order.plan;
+        let starts = first_line(self.alloc, &plan.start, plan.others.as_slice())?;
+        let index = own_path(self.alloc, folder.as_str(), INDEX)?;
+        let sight = sight_of(rt, index.as_str());
         let KnownPages {
             pages,
             before,
             is_index_there,
-        } = self.known_of(rt, failures, folder.as_str(), upkeep, stopped)?;
+            uses_index,
+            is_ours,
+        } = self.known_of(
+            rt,
+            failures,
+            folder.as_str(),
+            upkeep,
+            starts.as_slice(),
+            stopped,
+        )?;
         let earlier = self.earlier_of(folder.as_str(), upkeep, pages)?;
         let begun = BegunRun {
             folder,
@@ -461,6 +498,10 @@ impl<F: Drop> IndexRun<F> {
             by_name: places_by_name(self.alloc, earlier.pages.index().entries())?,
             is_index_there,
             hides_bodies: order.converts && !order.backs_up && !keeps_index(upkeep),
+            sight,
+            uses_index,
+            starts,
+            is_ours,
             before,
             earlier,
         };
@@ -556,7 +597,8 @@ impl<F: Drop> IndexRun<F> {
         let noted = take(self.alloc, &mut self.pages.lock(rt));
         let put = Put {
             pages: named_pages(self.alloc, noted.as_slice(), pages, names)?,
-            gone: gone_of(self.alloc, &begun, names)?,
+            gone: gone_of(self.alloc, &begun, begun.earlier.pages.index(), names)?,
+            gone_before: gone_of(self.alloc, &begun, &begun.before, names)?,
             is_all,
             is_cut_off: false,
             is_sure: false,
@@ -575,7 +617,7 @@ impl<F: Drop> IndexRun<F> {
         set_known(&mut self.put.lock(rt), is_sure, is_cut_off);
     }
 
-    // Writes the index of what was put, after the files of gone pages were removed, if that is to be done. An index that says so already stays.
+    // Writes the index of what was put, after the files of gone pages were removed, if that is to be done.
     fn end_index<R: Wait + Files>(
         &self,
         rt: &R,
@@ -588,25 +630,16 @@ impl<F: Drop> IndexRun<F> {
     where
         R::File: Close,
     {
-        let folder = begun.folder.as_str();
+        let path = own_path(self.alloc, begun.folder.as_str(), INDEX)?;
+        let end = IndexEnd {
+            alloc: self.alloc,
+            failures,
+            begun,
+            put,
+            path: path.as_str(),
+        };
         let removes = begun.upkeep.deletes_gone && is_whole && put.is_all;
-        if removes && !put.is_sure {
-            failures.say(rt, "files of gone pages stay: not all was answered\n");
-        }
-        let are_gone = removes && put.is_sure;
-        if are_gone {
-            remove_all(rt, self.alloc, failures, folder, put.gone.as_slice());
-        }
-        let earlier = begun.earlier.pages.index();
-        if begun.is_index_there && is_same(earlier, &put.pages) {
-            return Ok(());
-        }
-        let path = own_path(self.alloc, folder, INDEX)?;
-        if are_gone {
-            return put_index(rt, self.alloc, own, path.as_str(), &put.pages);
-        }
-        let index = joined(self.alloc, earlier, &put.pages)?;
-        put_index(rt, self.alloc, own, path.as_str(), &index)
+        end.put(rt, own, removes)
     }
 
     // Has the journal say which pages there are under the names that they have in the end: others may have those that they had early.

@@ -20,6 +20,20 @@ fn leads_down<R: Files>(rt: &R, alloc: Global, folder: &str, dirs: &str) -> io::
     Ok(true)
 }
 
+// The directories of a name, or nothing if it has none.
+fn dirs_of(name: &str) -> &str {
+    match name.rsplit_once('/') {
+        Some((dirs, _)) => dirs,
+        None => "",
+    }
+}
+
+/// Whether each directory on the way to a name below a folder is there, and no link.
+pub(crate) fn leads_to<R: Files>(rt: &R, alloc: Global, folder: &str, name: &str) -> bool {
+    let dirs = dirs_of(name);
+    dirs.is_empty() || leads_down(rt, alloc, folder, dirs).unwrap_or(false)
+}
+
 // Removes these directories below a folder as far as they are empty, the lowest first.
 fn remove_empty<R: Files>(rt: &R, alloc: Global, folder: &str, dirs: &str) -> io::Result<()> {
     let mut dirs = dirs;
@@ -37,10 +51,7 @@ fn remove_empty<R: Files>(rt: &R, alloc: Global, folder: &str, dirs: &str) -> io
 // Removes the file of a name below a folder, and the directories that are empty then. What is there in place of a file, or of a
 // directory on the way, stays.
 fn remove_name<R: Files>(rt: &R, alloc: Global, folder: &str, name: &str) -> io::Result<()> {
-    let dirs = match name.rsplit_once('/') {
-        Some((dirs, _)) => dirs,
-        None => "",
-    };
+    let dirs = dirs_of(name);
     if !dirs.is_empty() && !leads_down(rt, alloc, folder, dirs)? {
         return Ok(());
     }
