@@ -15,8 +15,6 @@
 
 mod form;
 mod fragment;
-#[cfg(test)]
-mod link_tests;
 mod links;
 mod mirror;
 mod whole;

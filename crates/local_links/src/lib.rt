@@ -10,8 +10,6 @@
 //! ```
 #![tactic(auto)]
 
-#[cfg(test)]
-mod reference_tests;
 mod writing;
 
 pub use crate::writing::relative;

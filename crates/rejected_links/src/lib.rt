@@ -13,8 +13,6 @@ pub use crate::reason::Reason;
 
 mod finding;
 mod line;
-#[cfg(test)]
-mod line_tests;
 mod log;
 mod reason;
 mod rejected_link;

@@ -1,5 +1,5 @@
 //! What is written from file to file, as a browser reads it.
-use crate::relative;
+use local_links::relative;
 
 // Each line: a file, another, and the reference.
 const ROWS: &str = "h/a h/b b

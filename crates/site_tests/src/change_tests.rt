@@ -1,8 +1,8 @@
 //! What links become, as a browser reads them.
 ghost use Rattle.std.specs.Prelude.{Some, None, bytes_eq, string_bytes, if◌then◌else◌};
 
-use crate::{Form, Links, Mirror};
 use address::Address;
+use link_changes::{Form, Links, Mirror};
 use std::alloc::Global;
 use std::process::Abort;
 
