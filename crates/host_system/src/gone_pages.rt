@@ -27,7 +27,7 @@ pub(crate) fn split_files<'a>(
 }
 
 /// Removes the files of these names, which are those of an entry's page, if one of them is as the entry says. If other files are there they
-/// stay, and a person is told: somebody else has put them there.
+/// stay, and a line for a person says so: somebody else has put them there.
 pub(crate) fn remove_page<R: Files + Wait>(
     rt: &R,
     alloc: Global,

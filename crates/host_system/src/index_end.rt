@@ -39,7 +39,7 @@ impl<'a> IndexEnd<'a> {
         begun.is_ours && (says || is_absent(rt, self.path))
     }
 
-    // Whether what this run didn't put is gone, so that it may be removed. If not, a person is told.
+    // Whether what this run didn't put is gone, so that it may be removed. If not, a line for a person says so.
     fn may_remove<R: Wait + Files>(&self, rt: &R) -> bool {
         if !self.put.is_sure {
             self.failures

@@ -1,4 +1,4 @@
-//! The index of a mirror on the disk, and what a person is told of the program's own files.
+//! The index of a mirror on the disk, and the lines for a person on the program's own files.
 ghost use Rattle.std.specs.Prelude.{◌≡◌, ◌++◌, ◌∷◌, IfOk, string_bytes};
 
 use crate::journal::is_nothing;
@@ -121,7 +121,7 @@ fn is_elsewhere<R: Files>(
     Ok(!entries.is_empty() && !is_any_there(rt, alloc, folder, entries)?)
 }
 
-/// The index at a path, if it can be used. Nobody is told why it can't. Fails only if memory runs out.
+/// The index at a path, if it can be used. Nothing says why it can't. Fails only if memory runs out.
 pub(crate) fn index_at<R: Files>(
     rt: &R,
     alloc: Global,
@@ -134,7 +134,8 @@ pub(crate) fn index_at<R: Files>(
     }
 }
 
-/// The index of a folder, if there is one that can be used. If what is there can't, a person is told. Fails only if memory runs out.
+/// The index of a folder, if there is one that can be used. If what is there can't, a line for a person says so. Fails only if memory runs
+/// out.
 pub(crate) fn index_of<R: Files + Wait>(
     rt: &R,
     alloc: Global,

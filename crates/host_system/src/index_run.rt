@@ -456,8 +456,8 @@ impl<F: Drop> IndexRun<F> {
 
     /// A run of this order begins. From now on a journal of it is kept below its folder. The pages of the one that is there, if the order
     /// goes on with it or keeps an index, and of the index, if it keeps one, are requested only to see if they changed, or not at all, as
-    /// the order says, if their files are as they were. If the index can't be used a person is told. What can't be gone on with is a fault
-    /// only if the order goes on with it.
+    /// the order says, if their files are as they were. If the index can't be used a line for a person says so. What can't be gone on with
+    /// is a fault only if the order goes on with it.
     pub(crate) fn begin<R: Wait + Files<File = F>>(
         &self,
         rt: &R,

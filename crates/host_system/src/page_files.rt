@@ -29,7 +29,7 @@ fn names_of(alloc: Global, name: &str) -> Result<Vec<String>, AllocError> {
 fn digest_of<F: Read>(file: &mut F, len: u64) -> Option<[u8; 32]> {
     let mut hasher = Sha256::new();
     let mut piece = [0u8; PIECE];
-    // Each round reads a byte at least, or comes to the end.
+    // Each round reads a byte at least, or reaches the end.
     for _ in 0..len.saturating_add(1) {
         match file.read(&mut piece) {
             Ok(0) => return Some(hasher.finalize()),
