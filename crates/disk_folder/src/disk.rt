@@ -45,6 +45,12 @@ pub trait Disk: Drop {
     /// The open file of this name is known to be held, so that no other owner holds it.
     ghost held: { Self → List ℕ → Type 0 };
 
+    /// The disk has said that the file of this name is the open one. Only its answer makes this known.
+    ghost found_open: { Self → List ℕ → Type 0 };
+
+    /// The disk has said that no other owner holds the file of this name. Only its answer makes this known.
+    ghost found_free: { Self → List ℕ → Type 0 };
+
     /// This is known to be under a name: a file's bytes, or none.
     ghost seen: { Self → List ℕ → Option (List ℕ) → Type 0 };
 
@@ -103,11 +109,13 @@ pub trait Disk: Drop {
 
     /// Whether another owner holds the file of this name. It isn't asked for a file that this one has open.
     fn is_anothers(&self, name: &str) -> bool
-        ensures alone { tells → result ≡ false };
+        ensures alone { tells → result ≡ false }
+        ensures found { result ≡ false → found_free self.now name.now };
 
     /// Whether the file of this name is still the open one: another owner may have given the name to a file of its own.
     fn is_open_at(&self, name: &str) -> bool
-        ensures same { opened self.now name.now → result ≡ true };
+        ensures same { opened self.now name.now → result ≡ true }
+        ensures found { result ≡ true → found_open self.now name.now };
 
     /// Adds bytes to the open file, by one call. If it fails, some of them may have been added, and nothing is known to be open.
     fn add(&mut self, bytes: &[u8]) -> Result<(), DiskError>

@@ -122,6 +122,10 @@ impl Disk for MemoryDisk {
 
     ghost held = { λ _ _. Unit {0} };
 
+    ghost found_open = { λ m n. IsOpen m.open n };
+
+    ghost found_free = { λ _ _. Unit {0} };
+
     ghost seen = { λ m n c. c ≡ file_at m.acts.items n };
 
     ghost named = { λ m n. (b : List ℕ) × (file_at m.acts.items n ≡ Some b) };

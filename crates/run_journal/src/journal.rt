@@ -97,6 +97,8 @@ impl<L: Drop> Journal<L> {
         ensures theirs { IfOk result (λ is_begun. is_begun ≡ false → self.new.is_open ≡ false) }
         ensures alone { D.tells → IfOk result (λ is_begun. is_begun ≡ true) }
         ensures shut { OnErr result (self.new.is_open ≡ false) }
+        ensures found { self.old.is_placed ≡ false → is_some self.old.left ≡ false → (disk.new ≡ disk.old) ⊎ D.found_free disk.old (string_bytes self.old.name) }
+        ensures begun_found { IfOk result (λ is_begun. is_begun ≡ true → self.old.is_placed ≡ false → is_some self.old.left ≡ false → D.found_free disk.old (string_bytes self.old.name)) }
         ensures held { self.new.is_placed ≡ false → self.new.left ≡ self.old.left }
         ensures name { self.new.name ≡ self.old.name }
     {
@@ -158,6 +160,8 @@ impl<L: Drop> Journal<L> {
         ensures nothing { IfOk result (λ adding. adding ≡ Nothing → self.new.is_open ≡ false) }
         ensures shut { OnErr result (self.new.is_open ≡ false) }
         ensures closed { self.old.is_open ≡ false → (self.new ≡ self.old) × (disk.new ≡ disk.old) }
+        // It begins only after the disk said that no other run holds what is there, unless this one holds it already.
+        ensures found { self.old.is_placed ≡ false → is_some self.old.left ≡ false → (disk.new ≡ disk.old) ⊎ D.found_free disk.old (string_bytes self.old.name) }
         // What was left is held until this one has its place.
         ensures held { self.new.is_placed ≡ false → self.new.left ≡ self.old.left }
         ensures name { self.new.name ≡ self.old.name }
@@ -179,6 +183,7 @@ impl<L: Drop> Journal<L> {
     // Whether its file, or the one that was left, goes after a run that is whole.
     fn goes<D: Disk>(&self, disk: &D) -> bool
         ensures own { self.now.is_placed ≡ true → D.opened disk.now (string_bytes self.now.name) → result ≡ true }
+        ensures found { self.now.is_placed ≡ true → result ≡ true → D.found_open disk.now (string_bytes self.now.name) }
         ensures left { self.now.is_placed ≡ false → result ≡ is_some self.now.left }
     {
         if self.is_placed {
@@ -200,6 +205,8 @@ impl<L: Drop> Journal<L> {
             → IsWritten D.opened D.held D.seen D.kept D.stale (D.left disk.old (string_bytes self.old.name)) text.now disk.new (string_bytes self.old.name)) }
         ensures own { self.old.is_placed ≡ true → D.opened disk.old (string_bytes self.old.name) → IfOk result (λ is_written. is_written ≡ true) }
         ensures stays { IfOk result (λ is_written. is_written ≡ false → disk.new ≡ disk.old) }
+        // Nothing is done unless the disk said that the file at its place is its own: it may be another run's by now.
+        ensures found { (disk.new ≡ disk.old) ⊎ D.found_open disk.old (string_bytes self.old.name) }
         // At any moment a crash leaves what it might have left, or a front of the text.
         ensures any_moment { D.tells → LeavesOnly D.moment D.since (string_bytes self.old.name) disk.old disk.new (LeavesText (D.left disk.old (string_bytes self.old.name)) text.now) }
         ensures closed { self.new.is_open ≡ false }
@@ -217,6 +224,8 @@ impl<L: Drop> Journal<L> {
     pub fn end<D: Disk>(&mut self, disk: &mut D, is_whole: bool) -> Result<(), DiskError>
         ensures stays { is_whole ≡ false → (self.new ≡ self.old) × (disk.new ≡ disk.old) }
         ensures left_stays { self.old.is_placed ≡ false → is_some self.old.left ≡ false → disk.new ≡ disk.old }
+        // Once it has had its place, nothing is removed unless the disk said that the file there is its own.
+        ensures found { self.old.is_placed ≡ true → (disk.new ≡ disk.old) ⊎ D.found_open disk.old (string_bytes self.old.name) }
         ensures gone { D.tells → is_whole ≡ true → self.old.is_placed ≡ true → D.opened disk.old (string_bytes self.old.name)
             → OnOk result (D.seen disk.new (string_bytes self.old.name) None) }
         ensures left_gone { D.tells → is_whole ≡ true → self.old.is_placed ≡ false → is_some self.old.left ≡ true

@@ -74,6 +74,10 @@ where
 
     ghost held = { λ _ _. ⊥ };
 
+    ghost found_open = { λ _ _. Unit {0} };
+
+    ghost found_free = { λ _ _. Unit {0} };
+
     ghost seen = { λ _ _ _. ⊥ };
 
     ghost named = { λ _ _. ⊥ };
