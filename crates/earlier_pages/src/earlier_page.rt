@@ -21,7 +21,6 @@ pub(crate) struct FoundFile<F> {
 }
 
 /// A page of an earlier run whose file has as many bytes as it had.
-#[derive(Drop)]
 pub struct EarlierPage<'a, F: Read + Drop> {
     alloc: Global,
     entry: &'a Entry,
@@ -29,6 +28,19 @@ pub struct EarlierPage<'a, F: Read + Drop> {
     // Other files that may be the page's, with as many bytes.
     other: Option<FoundFile<F>>,
     last: Option<FoundFile<F>>,
+}
+
+// Written by hand: a user that drops one proves a call, and nothing about its fields.
+impl<'a, F: Read + Drop> Drop for EarlierPage<'a, F> {
+    fn drop(self) {
+        let EarlierPage {
+            alloc: _alloc,
+            entry: _entry,
+            file: _file,
+            other: _other,
+            last: _last,
+        } = self;
+    }
 }
 
 impl<'a, F: Read + Drop> Model for EarlierPage<'a, F> {

@@ -11,11 +11,21 @@ use std::fs::{File, Files, Metadata};
 use std::marker::Model;
 
 /// The pages of an earlier run, by the index that it left in their folder.
-#[derive(Drop)]
 pub struct EarlierPages {
     alloc: Global,
     folder: String,
     index: MirrorIndex,
+}
+
+// Written by hand: a user that drops one proves a call, and nothing about its fields.
+impl Drop for EarlierPages {
+    fn drop(self) {
+        let EarlierPages {
+            alloc: _alloc,
+            folder: _folder,
+            index: _index,
+        } = self;
+    }
 }
 
 // Contracts see what the index says.

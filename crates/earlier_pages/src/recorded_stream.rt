@@ -7,12 +7,22 @@ use std::io::{Read, Write};
 use std::marker::Model;
 
 /// The bytes of a response again: its head, and then its body, which is in a file. What is written to it is dropped.
-#[derive(Drop)]
 pub struct RecordedStream<F: Read + Drop> {
     head: Vec<u8>,
     // How many bytes of the head were given.
     given: usize,
     body: F,
+}
+
+// Written by hand: a user that drops one proves a call, and nothing about its fields.
+impl<F: Read + Drop> Drop for RecordedStream<F> {
+    fn drop(self) {
+        let RecordedStream {
+            head: _head,
+            given: _given,
+            body: _body,
+        } = self;
+    }
 }
 
 impl<F: Read + Drop> Model for RecordedStream<F> {

@@ -16,12 +16,23 @@ use std::marker::Model;
 pub const MAX_LINE: usize = 65_536;
 
 /// What was said with a page: its status, and the values of `Content-Type`, `ETag` and `Last-Modified` as they came.
-#[derive(Drop)]
 pub struct KeptHead {
     status: u16,
     content_type: Option<Vec<u8>>,
     etag: Option<Vec<u8>>,
     last_modified: Option<Vec<u8>>,
+}
+
+// Written by hand: a user that drops one proves a call, and nothing about its fields.
+impl Drop for KeptHead {
+    fn drop(self) {
+        let KeptHead {
+            status: _status,
+            content_type: _content_type,
+            etag: _etag,
+            last_modified: _last_modified,
+        } = self;
+    }
 }
 
 impl Model for KeptHead {
@@ -103,13 +114,25 @@ pub enum Mark {
 
 /// A page that is kept: its address, the name of its file below the folder, how many bytes that has and by what one sees that they
 /// are the same, and what was said with it.
-#[derive(Drop)]
 pub struct Entry {
     address: Address,
     name: String,
     size: u64,
     mark: Mark,
     head: KeptHead,
+}
+
+// Written by hand: a user that drops one proves a call, and nothing about its fields.
+impl Drop for Entry {
+    fn drop(self) {
+        let Entry {
+            address: _address,
+            name: _name,
+            size: _size,
+            mark: _mark,
+            head: _head,
+        } = self;
+    }
 }
 
 impl Model for Entry {

@@ -15,9 +15,15 @@ use std::marker::Model;
 pub const MAX_ENTRIES: usize = 10_000_000;
 
 /// What is kept of pages, in the order of their addresses.
-#[derive(Drop)]
 pub struct MirrorIndex {
     entries: Vec<Entry>,
+}
+
+// Written by hand: a user that drops one proves a call, and nothing about its fields.
+impl Drop for MirrorIndex {
+    fn drop(self) {
+        let MirrorIndex { entries: _entries } = self;
+    }
 }
 
 impl Model for MirrorIndex {
