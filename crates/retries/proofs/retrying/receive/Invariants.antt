@@ -2,15 +2,17 @@
 use Rattle.std.proofs.Common.{◌≡◌}
 use Rattle.fetcher.specs.declared.fetcher.Ask.TheVariants as ask
 use Rattle.answer_notes.specs.Received.{received_outcome, received_body}
+use Rattle.http_fetcher.specs.Meanings.{MayAnswer}
 use Rattle.pacing.specs.Retries.{retries_by}
+use Rattle.retries.specs.Keeping.{asks_of, lost_of}
 use Rattle.retries.specs.Tries.{TriesSoFar}
 use Rattle.retries.specs.Worth.{is_worth}
 use Rattle.retries.proofs.retrying.receive.Given as goal
 
 abbrev pub invariant-loop-made : goal.invariant-loop-made
 invariant-loop-made g l = record {
-  site : g.F.Fetcher.site l.inner ≡ g.F.Fetcher.site l.fn.inner;
-  links : g.F.Receiving.links l.inner ≡ g.F.Receiving.links l.fn.inner;
-  told : g.F.Fetcher.says (g.F.Fetcher.site l.fn.inner) l.at (received_outcome (g.F.Receiving.links l.fn.inner) l.at l.received) (received_body l.received);
-  tries : TriesSoFar g.F.Fetcher.log g.F.Calling.lost (λ f t. g.F.Fetcher.says (g.F.Fetcher.site f) l.at (received_outcome (g.F.Receiving.links f) l.at t) (received_body t)) (is_worth (retries_by l.retries)) (ask.Page l.at) l.made l.fn.inner l.inner l.received;
+  site : l.inner.links ≡ l.fn.inner.links;
+  links : l.inner.links ≡ l.fn.inner.links;
+  told : MayAnswer l.fn.inner.links l.at (received_outcome l.fn.inner.links l.at l.received) (received_body l.received);
+  tries : TriesSoFar asks_of (lost_of g.C.CallingConnect.lost) (λ f t. MayAnswer f.links l.at (received_outcome f.links l.at t) (received_body t)) (is_worth (retries_by l.retries)) (ask.Page l.at) l.made l.fn.inner l.inner l.received;
 }
