@@ -24,9 +24,9 @@ use Rattle.response_reader.specs.Limits.{Limited}
 use Rattle.retries.specs.Keeping.{MayKeep, StandsForAnswer, asks_of, is_worth_answer}
 use Rattle.retries.specs.Tries.{AreTries, IsLastOf}
 use Rattle.tcp_connect.specs.Connecting.{Connecting}
-use Rattle.tcp_fetcher.specs.Answering.{AreMarked, HasMark, IsAnswered, IsAnsweredBy, IsLeft, IsOfEarlier, IsReceived, IsReceivedIfChanged, IsReadAgain, IsRecorded, IsAnswerWith, Lasting, has_status, lasting, not_received, site_of, without_digest}
+use Rattle.tcp_fetcher.specs.Answering.{AreMarked, HasMark, IsAnswered, IsAnsweredBy, IsLeft, IsOfEarlier, IsReceived, IsReceivedIfChanged, IsReadAgain, IsRecorded, IsRecordedIn, IsAnswerWith, Lasting, has_status, lasting, not_received, site_of, without_digest}
 use Rattle.tcp_fetcher.specs.TcpFetching.{TcpFetching, conditioned}
-use Rattle.tcp_fetcher.specs.PartsFetching.{MayAnswerIn}
+use Rattle.tcp_fetcher.specs.PartsFetching.{MayAnswerIn, PartsSite}
 use Rattle.tcp_fetcher.specs.declared.earlier.Earlier.{Earlier}
 
 -- what follows for a value
@@ -97,13 +97,18 @@ recorded limits links at entry answer (own, says, (real, (outcome, ((holds, rece
     marked (Changed time) is = tt
 
 -- the same of what was read again, if anything was
-pub answers_recorded : (fetcher : Lasting) (at : AddressText) (entry : Entry) (limits : Limited) (links : LinkRules) (read : Option (Answer (Digested KeptPart)))
-    → limits ≡ fetcher.limits → links ≡ fetcher.links → IfSome read (IsReadAgain holds_received limits links at entry)
-    → IfSome (option_map (λ answer. not_received (without_digest answer)) read) (IsRecorded fetcher at entry)
-answers_recorded fetcher at entry limits links None same_limits same_links again = tt
-answers_recorded fetcher at entry limits links (Some answer) same_limits same_links again =
-    recorded fetcher.limits fetcher.links at entry answer (subst (λ (l : LinkRules). IsReadAgain holds_received fetcher.limits l at entry answer) same_links
-    (subst (λ (l : Limited). IsReadAgain holds_received l links at entry answer) same_limits again))
+pub answers_recorded : (site : PartsSite) (at : AddressText) (entry : Entry) (read : Option (Answer (Digested KeptPart)))
+    → IfSome read (IsReadAgain holds_received site.1 site.0 at entry) → IfSome (option_map (λ answer. not_received (without_digest answer)) read) (IsRecordedIn site at entry)
+answers_recorded site at entry None again = tt
+answers_recorded site at entry (Some answer) again = recorded site.1 site.0 at entry answer again
+
+-- what was recorded is so for what asks by these links and limits
+pub recorded_by : {E : Type 0} (fetcher : Lasting) (at : AddressText) (entry : Entry) (limits : Limited) (links : LinkRules) (r : Result (Option (Answer KeptPart)) E)
+    → limits ≡ fetcher.limits → links ≡ fetcher.links
+    → IfOk r (λ found. IfSome found (IsRecordedIn (links, limits) at entry)) → IfOk r (λ found. IfSome found (IsRecorded fetcher at entry))
+recorded_by fetcher at entry limits links r same_limits same_links again =
+    subst (λ (l : LinkRules). IfOk r (λ found. IfSome found (IsRecordedIn (l, fetcher.limits) at entry))) same_links
+    (subst (λ (l : Limited). IfOk r (λ found. IfSome found (IsRecordedIn (links, l) at entry))) same_limits again)
 
 -- it is one that the site may give
 pub may_recorded : (fetcher : Lasting) (at : AddressText) (entry : Entry) (answer : Answer KeptPart) → IsRecorded fetcher at entry answer → MayAnswerIn (site_of fetcher) at answer.outcome answer.body
@@ -132,15 +137,26 @@ module _ (fetcher : Lasting) (at : AddressText) (old new : Fetching Connecting) 
   of_missing a has unasked (inl received) = inl received
   of_missing a has unasked (inr left) = inr (entry, has, inr (unasked, left))
 
-  pub kept_changed : {E : Type 0} (r : Result (Answer KeptPart) E) → fetcher.known ≡ Some earlier → HasThis earlier.pages at entry → earlier.is_asked ≡ true
+  pub known_changed : {E : Type 0} (r : Result (Answer KeptPart) E) → HasThis earlier.pages at entry → earlier.is_asked ≡ true
       → IfOk r (IsAnswerWith fetcher at (λ a. IsReceived fetcher at None old new a ⊎ IsReceivedIfChanged fetcher at entry old new a))
-      → IfOk r (IsAnswerWith fetcher at (IsAnswered fetcher at old new))
-  kept_changed r is has asked answered = if_ok_map r _ _ answered (λ a told. (told.0, answered_by fetcher at old new a fetcher.known earlier is (of_changed a has asked told.1)))
+      → IfOk r (IsAnswerWith fetcher at (λ a. IsReceived fetcher at None old new a ⊎ IsOfEarlier fetcher at earlier old new a))
+  known_changed r has asked answered = if_ok_map r _ _ answered (λ a told. (told.0, of_changed a has asked told.1))
 
-  pub kept_missing : {E : Type 0} (r : Result (Answer KeptPart) E) → fetcher.known ≡ Some earlier → HasThis earlier.pages at entry → earlier.is_asked ≡ false
+  pub known_missing : {E : Type 0} (r : Result (Answer KeptPart) E) → HasThis earlier.pages at entry → earlier.is_asked ≡ false
       → IfOk r (IsAnswerWith fetcher at (λ a. IsReceived fetcher at None old new a ⊎ IsLeft fetcher at entry old new a))
-      → IfOk r (IsAnswerWith fetcher at (IsAnswered fetcher at old new))
-  kept_missing r is has unasked answered = if_ok_map r _ _ answered (λ a told. (told.0, answered_by fetcher at old new a fetcher.known earlier is (of_missing a has unasked told.1)))
+      → IfOk r (IsAnswerWith fetcher at (λ a. IsReceived fetcher at None old new a ⊎ IsOfEarlier fetcher at earlier old new a))
+  known_missing r has unasked answered = if_ok_map r _ _ answered (λ a told. (told.0, of_missing a has unasked told.1))
+
+-- what is answered by pages that are known is answered by what is known
+pub kept_known : {E : Type 0} (fetcher : Lasting) (at : AddressText) (old new : Fetching Connecting) (earlier : Earlier) (r : Result (Answer KeptPart) E) → fetcher.known ≡ Some earlier
+    → IfOk r (IsAnswerWith fetcher at (λ a. IsReceived fetcher at None old new a ⊎ IsOfEarlier fetcher at earlier old new a))
+    → IfOk r (IsAnswerWith fetcher at (IsAnswered fetcher at old new))
+kept_known fetcher at old new earlier r is answered = if_ok_map r _ _ answered (λ a told. (told.0, answered_by fetcher at old new a fetcher.known earlier is told.1))
+
+-- the same if nothing is known
+pub kept_anew : {E : Type 0} (fetcher : Lasting) (at : AddressText) (old new : Fetching Connecting) (r : Result (Answer KeptPart) E)
+    → IfOk r (IsAnswerWith fetcher at (IsReceived fetcher at None old new)) → IfOk r (IsAnswerWith fetcher at (IsAnswered fetcher at old new))
+kept_anew fetcher at old new r answered = if_ok_map r _ _ answered (λ a told. (told.0, answered_anew fetcher at old new a fetcher.known told.1))
 
 -- that a page was noted changes nothing of its answer
 pub answered_noted : {E : Type 0} (known : Option Earlier) (inner noted : TcpFetching) (asks : List Ask) (at : AddressText) (r : Result (Answer KeptPart) E) (new : Fetching Connecting)

@@ -85,18 +85,22 @@ abbrev pub AreMarked : Mark → List ℕ → Type 0
 AreMarked (Digest digest) bytes = sha256 bytes ≡ digest
 AreMarked (Changed time) bytes = Unit {0}
 
+-- the answer is one that the site may give, of the status that was recorded, and its body, which this run didn't receive, has the SHA-256 that
+-- was recorded, or is that of a file with the time that was recorded
+abbrev pub IsRecordedIn : PartsSite → AddressText → Entry → Answer KeptPart → Type 0
+IsRecordedIn site at entry answer =
+    (has_status answer.outcome entry.head.status ≡ true)
+    × (answer.body.is_received ≡ false)
+    × StandsForOne holds_part answer (λ real. MayAnswerWithin site.1 site.0 at real.outcome real.body × AreMarked entry.mark real.body.bytes)
+
 module _ (fetcher : Lasting) (at : AddressText) where
   -- the answer is one that the site may give, and of which this holds
   abbrev pub IsAnswerWith : (Answer KeptPart → Type 0) → Answer KeptPart → Type 0
   IsAnswerWith Holds answer = MayAnswerIn (site_of fetcher) at answer.outcome answer.body × Holds answer
 
-  -- the answer is one that the site may give, of the status that was recorded, and its body, which this run didn't receive, has the SHA-256
-  -- that was recorded, or is that of a file with the time that was recorded
+  -- the answer is what was recorded with an entry
   abbrev pub IsRecorded : Entry → Answer KeptPart → Type 0
-  IsRecorded entry answer =
-      (has_status answer.outcome entry.head.status ≡ true)
-      × (answer.body.is_received ≡ false)
-      × StandsForOne holds_part answer (λ real. MayAnswerWithin fetcher.limits fetcher.links at real.outcome real.body × AreMarked entry.mark real.body.bytes)
+  IsRecorded entry answer = IsRecordedIn (site_of fetcher) at entry answer
 
   -- from one of these to the other the network is asked with this condition alone, if there is one: once, or again if that is worth it. What
   -- is received last is the answer, whose body counts as received. What was sent last is what the other sends

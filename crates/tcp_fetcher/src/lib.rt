@@ -7,6 +7,7 @@
 mod earlier;
 mod observed_tcp;
 mod over_tcp;
+mod page_taker;
 mod parts_over_tcp;
 
 pub use crate::earlier::{Earlier, IndexNote};

@@ -1,35 +1,28 @@
 //! What asks over TCP for one worker, and has the bodies kept in files while they arrive.
-ghost use Rattle.std.specs.Prelude.{◌≡◌, ◌<◌, ◌⊎◌, ◌++◌, ◌∷◌, [], None, Some, IfOk, IfSome, IsTrue, OnErr, OnOk, option_map, true};
+ghost use Rattle.std.specs.Prelude.{◌≡◌, ◌<◌, ◌⊎◌, ◌++◌, ◌∷◌, [], None, Some, IfOk, IfSome, OnErr, OnOk, option_map};
 ghost use Rattle.std.specs.Arc.{arc_value};
 ghost use Rattle.fetcher.specs.Logs.{GainedAtMost};
 ghost use Rattle.fetcher.specs.declared.fetcher.Ask.TheVariants as ask;
 ghost use Rattle.http_fetcher.specs.Fetching.{with_condition};
-ghost use Rattle.response_reader.specs.Limits.{limited};
-ghost use Rattle.tcp_fetcher.specs.Answering.{HasMark, IsAnswered, IsConcluded, IsLeft, IsReceived, IsReceivedIfChanged, IsReadAgain, IsRecorded, IsAnswerWith, has_status, is_unchanged, lasting, not_received, without_digest};
+ghost use Rattle.tcp_fetcher.specs.Answering.{IsAnswered, IsConcluded, IsLeft, IsOfEarlier, IsReceived, IsReceivedIfChanged, IsRecorded, IsAnswerWith, is_unchanged, lasting};
 ghost use Rattle.tcp_fetcher.specs.PartsFetching.{MayAnswerIn, MayRuleIn, PartsSite, parts_site};
 ghost use Rattle.tcp_fetcher.specs.TcpFetching.{AreReceivedRules, conditioned, last_loss};
 
 use crate::earlier::{Earlier, IndexNote};
 use crate::over_tcp::OverTcp;
+use crate::page_taker::PageTaker;
 use address::{Address, Origin};
 use answer_notes::Receiving;
-use body_digests::{Digested, Digesting};
+use body_digests::Digesting;
 use earlier_pages::EarlierPage;
 use early_names::EarlyRules;
 use fetcher::{Answer, Ask, Fetcher, Outcome};
-use html_links::LinkRules;
-use http_fetcher::answer_over;
-use kept_bodies::{BodyKind, Keeper};
-use mirror_index::{KeptHead, Mark};
-use part_keeper::{KeptPart, PartCounter, PartKeeper, PartLinker, PartsDir, Standing};
+use part_keeper::{KeptPart, PartKeeper, PartsDir};
 use requests::Condition;
-use response_answer::PageSink;
-use response_reader::{Limits, TcpWire};
 use robots_rules::RuleSet;
 use run_failures::LossKind;
 use std::alloc::{AllocError, Global};
 use std::fs::Files;
-use std::io::Read;
 use std::marker::Model;
 use std::net::Net;
 use std::sync::{Arc, Wait};
@@ -43,23 +36,10 @@ where
     R::File: Close + Lock,
 {
     inner: OverTcp<'a, R>,
-    sink: PageSink<Digesting<PartKeeper<'a, R>>>,
-    // Takes pages that aren't kept.
-    passing: PageSink<PartCounter>,
-    linker: PartLinker<'a, R>,
-    // What took the last page, if its part is a link to the file that it was read from.
-    linked: Option<PageSink<Digesting<PartCounter>>>,
-    rules: Option<Arc<EarlyRules>>,
+    taker: PageTaker<'a, R>,
     // What is known of an earlier run's pages, if an index is kept.
     earlier: Option<Arc<Earlier>>,
-    // The SHA-256 of the body that was kept last, if digests are computed and the last page has one.
-    last: Option<[u8; 32]>,
-    // Whether what was answered last was requested over the network.
-    is_requested: bool,
-    alloc: Global,
     rt: &'a R,
-    kept: &'a KeptConnections<R::Stream>,
-    parts: &'a PartsDir<R::File>,
 }
 
 // Written by hand: a user that drops one proves a call, and nothing about its fields.
@@ -70,18 +50,9 @@ where
     fn drop(self) {
         let PartsOverTcp {
             inner: _inner,
-            sink: _sink,
-            passing: _passing,
-            linker: _linker,
-            linked: _linked,
-            rules: _rules,
+            taker: _taker,
             earlier: _earlier,
-            last: _last,
-            is_requested: _is_requested,
-            alloc: _alloc,
             rt: _rt,
-            kept: _kept,
-            parts: _parts,
         } = self;
     }
 }
@@ -118,34 +89,12 @@ where
         ensures { result ≡ record inner.entry { known = option_map arc_value earlier } }
     {
         let keeper = PartKeeper::new(rt, alloc, parts, inner.takes_times());
+        let keeper = Digesting::new(keeper, earlier.is_some());
         PartsOverTcp {
             inner,
-            sink: PageSink::new(alloc, Digesting::new(keeper, earlier.is_some())),
-            passing: PageSink::new(alloc, PartCounter::new()),
-            linker: PartLinker::new(rt, alloc, parts),
-            linked: None,
-            rules,
+            taker: PageTaker::new(rt, alloc, kept, parts, keeper, rules),
             earlier,
-            last: None,
-            is_requested: true,
-            alloc,
             rt,
-            kept,
-            parts,
-        }
-    }
-
-    // The answer, whose body's digest is that of the last one from then on.
-    fn taken(&mut self, answer: Answer<Digested<KeptPart>>) -> Answer<KeptPart>
-        ensures answer { result ≡ without_digest answer }
-        ensures fetcher { self.new ≡ self.old }
-    {
-        let Answer { outcome, body } = answer;
-        let Digested { kept, digest } = body;
-        self.last = digest;
-        Answer {
-            outcome,
-            body: kept,
         }
     }
 
@@ -158,33 +107,12 @@ where
         ensures received { IfOk result (IsAnswerWith (lasting self.old) at.now (IsReceived (lasting self.old) at.now condition self.old.single self.new.single)) }
         ensures lasting { lasting self.new ≡ lasting self.old }
     {
-        let answer = self.inner.ask_noted(&mut self.sink, at, condition)?;
-        Ok(self.taken(answer))
+        let answer = self.inner.ask_noted(&mut self.taker.sink, at, condition)?;
+        Ok(self.taker.taken(answer))
     }
 
-    // A link to the file of a page's own name, if the page has a digest and the disk has such links: a file whose time counts has to keep it.
-    fn link_to(&mut self, page: &EarlierPage<'_, R::File>) -> Option<PartCounter>
-        ensures { self.new ≡ self.old }
-    {
-        match page.entry().mark() {
-            Mark::Digest(_) => self.linker.link(page.own_path()?, page.file()),
-            Mark::Changed(_) => None,
-        }
-    }
-
-    // A page that was read again is the answer, if it was.
-    fn again(&mut self, read: Option<Answer<Digested<KeptPart>>>) -> Option<Answer<KeptPart>>
-        ensures answer { result ≡ option_map (λ answer. not_received (without_digest answer)) read }
-        ensures fetcher { self.new ≡ self.old }
-    {
-        match read {
-            Some(answer) => Some(not_received(self.taken(answer))),
-            None => None,
-        }
-    }
-
-    // The page of an earlier run again, if this file of it still has the bytes that it had. Its part is a link to the file if there can be one, else a copy.
-    fn read_again(
+    // The page of an earlier run again, if a file that may be its still has the bytes that it had.
+    fn replayed(
         &mut self,
         at: &Address,
         page: EarlierPage<'_, R::File>,
@@ -194,52 +122,7 @@ where
     {
         let links = self.inner.link_rules();
         let limits = self.inner.limits();
-        let Some(part) = self.link_to(&page) else {
-            let read = read_into(self.alloc, page, at, &mut self.sink, links, limits)?;
-            return Ok(self.again(read));
-        };
-        let mut sink = PageSink::new(self.alloc, Digesting::new(part, true));
-        let read = read_into(self.alloc, page, at, &mut sink, links, limits)?;
-        set(&mut self.linked, Some(sink));
-        Ok(self.again(read))
-    }
-
-    // The same of one of two files: this one, and the other that the page may have.
-    fn read_one(
-        &mut self,
-        at: &Address,
-        mut page: EarlierPage<'_, R::File>,
-    ) -> Result<Option<Answer<KeptPart>>, AllocError>
-        ensures recorded { IfOk result (λ found. IfSome found (IsRecorded (lasting self.old) at.now page.entry.entry)) }
-        ensures fetcher { self.new ≡ self.old }
-    {
-        let other = page.take_other();
-        if let Some(answer) = self.read_again(at, page)? {
-            return Ok(Some(answer));
-        }
-        match other {
-            Some(other) => self.read_again(at, other),
-            None => Ok(None),
-        }
-    }
-
-    // The page of an earlier run again, if one of the files that may be its, three at most, still has the bytes that it had.
-    fn replayed(
-        &mut self,
-        at: &Address,
-        mut page: EarlierPage<'_, R::File>,
-    ) -> Result<Option<Answer<KeptPart>>, AllocError>
-        ensures recorded { IfOk result (λ found. IfSome found (IsRecorded (lasting self.old) at.now page.entry.entry)) }
-        ensures fetcher { self.new ≡ self.old }
-    {
-        let other = page.take_other();
-        if let Some(answer) = self.read_again(at, page)? {
-            return Ok(Some(answer));
-        }
-        match other {
-            Some(other) => self.read_one(at, other),
-            None => Ok(None),
-        }
+        self.taker.replayed(at, page, links, limits)
     }
 
     // What is answered after a request with a condition: if the server says that the page is as it was, it is read again, or requested
@@ -290,21 +173,18 @@ where
     {
         match self.replayed(at, page)? {
             Some(answer) => {
-                self.is_requested = false;
+                self.taker.is_requested = false;
                 Ok(answer)
             }
             None => self.ask_noted(at, None),
         }
     }
 
-    // Answers for a page that is kept: by what an earlier run has of it, if that is still there and it didn't change.
-    fn ask_kept(&mut self, at: &Address) -> Result<Answer<KeptPart>, AllocError>
-        ensures answered { IfOk result (IsAnswerWith (lasting self.old) at.now (IsAnswered (lasting self.old) at.now self.old.single self.new.single)) }
+    // Answers for a page that is kept, by these pages of an earlier run.
+    fn ask_known(&mut self, at: &Address, earlier: &Earlier) -> Result<Answer<KeptPart>, AllocError>
+        ensures answered { IfOk result (IsAnswerWith (lasting self.old) at.now (λ a. IsReceived (lasting self.old) at.now None self.old.single self.new.single a ⊎ IsOfEarlier (lasting self.old) at.now earlier.now self.old.single self.new.single a)) }
         ensures lasting { lasting self.new ≡ lasting self.old }
     {
-        let Some(earlier) = shared(&self.earlier) else {
-            return self.ask_noted(at, None);
-        };
         let Some(page) = earlier.pages.page(self.rt, at) else {
             return self.ask_noted(at, None);
         };
@@ -315,6 +195,17 @@ where
         }
     }
 
+    // Answers for a page that is kept: by what an earlier run has of it, if that is still there and it didn't change.
+    fn ask_kept(&mut self, at: &Address) -> Result<Answer<KeptPart>, AllocError>
+        ensures answered { IfOk result (IsAnswerWith (lasting self.old) at.now (IsAnswered (lasting self.old) at.now self.old.single self.new.single)) }
+        ensures lasting { lasting self.new ≡ lasting self.old }
+    {
+        match shared(&self.earlier) {
+            Some(earlier) => self.ask_known(at, &earlier),
+            None => self.ask_noted(at, None),
+        }
+    }
+
     /// What an index or a journal gets of a page and its answer, the last one, if the page can be answered by it: not if its body was coded,
     /// since its links weren't looked for.
     pub fn note(
@@ -322,36 +213,19 @@ where
         at: &Address,
         answer: &Answer<KeptPart>,
     ) -> Result<Option<IndexNote>, AllocError> {
-        let Some(status) = status_noted(answer) else {
-            return Ok(None);
-        };
-        let head = match &self.linked {
-            Some(sink) => head_of(self.alloc, status, sink)?,
-            None => head_of(self.alloc, status, &self.sink)?,
-        };
-        Ok(Some(IndexNote {
-            at: at.try_clone()?,
-            len: answer.body.len,
-            digest: self.last,
-            head,
-        }))
+        self.taker.note(at, answer)
     }
 
     /// Why the last connection was lost, if the last request was over one and that was lost.
     pub fn loss(&self) -> Option<LossKind>
         ensures { IfSome result (λ kind. last_loss self.now.single ≡ Some kind) }
     {
-        if self.is_requested {
+        if self.taker.is_requested {
             self.inner.loss()
         } else {
             None
         }
     }
-}
-
-// This is held from now on.
-fn set<T: Drop>(held: &mut Option<T>, value: Option<T>) {
-    *held = value;
 }
 
 // Whether the server said that a page is as it was (RFC 9110, section 15.4.5).
@@ -364,69 +238,6 @@ fn is_unchanged(outcome: &Outcome) -> bool
     }
 }
 
-// Whether it is a response of this status that is no redirect.
-fn has_status(outcome: &Outcome, said: u16) -> bool
-    ensures { result ≡ has_status outcome.now said }
-{
-    match outcome {
-        Outcome::Page(status, _) | Outcome::Leaf(status) => *status == said,
-        Outcome::Moved(_, _) | Outcome::Fault(_) => false,
-    }
-}
-
-// Whether a body has this mark, as far as its bytes show it: the file that it is read from has the time of one without a digest.
-fn has_mark(body: &Digested<KeptPart>, mark: Mark) -> bool
-    ensures { IsTrue result → HasMark mark body.now.digest }
-{
-    match (mark, &body.digest) {
-        (Mark::Digest(digest), Some(own)) => own.as_slice() == digest.as_slice(),
-        (Mark::Digest(_), None) => false,
-        (Mark::Changed(_), _) => true,
-    }
-}
-
-// Whether an answer is of this status, and its body has this mark.
-fn is_recorded(answer: &Answer<Digested<KeptPart>>, mark: Mark, status: u16) -> bool
-    ensures { IsTrue result → HasMark mark answer.now.body.digest × (has_status answer.now.outcome status ≡ true) }
-{
-    has_mark(&answer.body, mark) && has_status(&answer.outcome, status)
-}
-
-// The page of an earlier run by this sink, if its file still has the bytes that it had.
-fn read_into<F: Read + Drop, K: Keeper<Kept = KeptPart>>(
-    alloc: Global,
-    page: EarlierPage<'_, F>,
-    at: &Address,
-    sink: &mut PageSink<Digesting<K>>,
-    links: LinkRules,
-    limits: Limits,
-) -> Result<Option<Answer<Digested<KeptPart>>>, AllocError>
-    ensures { IfOk result (λ found. IfSome found (IsReadAgain K.holds (limited limits) links at.now page.entry.entry)) }
-{
-    let mark = page.entry().mark();
-    let status = page.entry().head().status();
-    let mut wire = TcpWire::new(page.into_stream()?);
-    let answer = answer_over(alloc, &mut wire, at, sink, links, limits)?;
-    if is_recorded(&answer, mark, status) {
-        Ok(Some(answer))
-    } else {
-        Ok(None)
-    }
-}
-
-// An answer whose body was read from an earlier run's file.
-fn not_received(answer: Answer<KeptPart>) -> Answer<KeptPart>
-    ensures { result ≡ not_received answer }
-{
-    Answer {
-        body: KeptPart {
-            is_received: false,
-            ..answer.body
-        },
-        ..answer
-    }
-}
-
 // What is known of an earlier run's pages. If there is no room to share it nothing is.
 fn shared(earlier: &Option<Arc<Earlier>>) -> Option<Arc<Earlier>>
     ensures { IfSome result (λ known. option_map arc_value earlier.now ≡ Some (arc_value known)) }
@@ -434,60 +245,6 @@ fn shared(earlier: &Option<Arc<Earlier>>) -> Option<Arc<Earlier>>
     match earlier {
         Some(earlier) => Arc::try_clone(earlier).ok(),
         None => None,
-    }
-}
-
-// The status of a kept page that can be answered again from its file.
-fn status_noted(answer: &Answer<KeptPart>) -> Option<u16> {
-    match (&answer.outcome, answer.body.kind, answer.body.standing) {
-        (_, _, Standing::Lost | Standing::Absent) => None,
-        (Outcome::Page(status, _), _, _) => Some(*status),
-        (Outcome::Leaf(status), BodyKind::Other, _) => Some(*status),
-        _ => None,
-    }
-}
-
-// A copy of a value, if there is one.
-fn copy_of(alloc: Global, value: Option<&[u8]>) -> Result<Option<Vec<u8>>, AllocError> {
-    match value {
-        Some(value) => Ok(Some(Vec::from_slice(alloc, value)?)),
-        None => Ok(None),
-    }
-}
-
-// What a page's answer was recorded with, by what took it.
-fn head_of<K: Keeper>(
-    alloc: Global,
-    status: u16,
-    sink: &PageSink<K>,
-) -> Result<KeptHead, AllocError> {
-    let kind = copy_of(alloc, sink.content_type())?;
-    let tag = copy_of(alloc, sink.etag())?;
-    let changed = copy_of(alloc, sink.last_modified())?;
-    Ok(KeptHead::new(status, kind, tag, changed))
-}
-
-// Whether a page of this address is kept.
-fn keeps(rules: &Option<Arc<EarlyRules>>, page: &Address) -> bool {
-    match rules {
-        Some(rules) => rules.keeps(page),
-        None => true,
-    }
-}
-
-// Writes the bodies for whose files there was no descriptor. No connection of this worker is in use now, and those that wait are
-// ended.
-fn write_late<R: Net + Wait + Files>(
-    rt: &R,
-    kept: &KeptConnections<R::Stream>,
-    parts: &PartsDir<R::File>,
-)
-where
-    R::File: Close + Lock,
-{
-    if parts.has_late(rt) {
-        kept.end_waiting(rt);
-        parts.write_late(rt);
     }
 }
 
@@ -522,15 +279,13 @@ where
         ensures sends { with_condition None self.new.sends ≡ with_condition None self.old.sends }
         ensures known { self.new.known ≡ self.old.known }
     {
-        self.last = None;
-        set(&mut self.linked, None);
-        self.is_requested = true;
+        self.taker.begin();
         self.inner.note_ask(at)?;
-        if !keeps(&self.rules, at) {
-            return self.inner.ask_noted(&mut self.passing, at, None);
+        if !self.taker.keeps(at) {
+            return self.inner.ask_noted(&mut self.taker.passing, at, None);
         }
         let answer = self.ask_kept(at);
-        write_late(self.rt, self.kept, self.parts);
+        self.taker.write_late();
         answer
     }
 
@@ -545,7 +300,7 @@ where
         ensures retries { self.new.retries ≡ self.old.retries }
         ensures limits { self.new.limits ≡ self.old.limits }
     {
-        self.is_requested = true;
+        self.taker.is_requested = true;
         self.inner.ask_robots(of)
     }
 

@@ -1,0 +1,372 @@
+//! What takes the pages of one worker: it has their bodies kept in parts, and reads again those that an earlier run kept.
+ghost use Rattle.std.specs.Prelude.{◌≡◌, IfOk, IfSome, IsTrue, option_map, true};
+ghost use Rattle.part_keeper.specs.Parts.{holds_received};
+ghost use Rattle.response_reader.specs.Limits.{limited};
+ghost use Rattle.tcp_fetcher.specs.Answering.{HasMark, IsReadAgain, IsRecordedIn, has_status, not_received, without_digest};
+
+use crate::earlier::IndexNote;
+use address::Address;
+use body_digests::{Digested, Digesting};
+use earlier_pages::EarlierPage;
+use early_names::EarlyRules;
+use fetcher::{Answer, Outcome};
+use html_links::LinkRules;
+use http_fetcher::answer_over;
+use kept_bodies::{BodyKind, Keeper};
+use mirror_index::{KeptHead, Mark};
+use part_keeper::{KeptPart, PartCounter, PartKeeper, PartLinker, PartsDir, Standing};
+use response_answer::PageSink;
+use response_reader::{Limits, TcpWire};
+use std::alloc::{AllocError, Global};
+use std::fs::Files;
+use std::io::Read;
+use std::net::Net;
+use std::sync::{Arc, Wait};
+use streams::{Close, Lock};
+use tcp_connect::KeptConnections;
+
+/// Takes the pages of one worker.
+pub(crate) struct PageTaker<'a, R: Net + Wait + Files>
+where
+    R::File: Close + Lock,
+{
+    /// Takes pages that are kept.
+    pub(crate) sink: PageSink<Digesting<PartKeeper<'a, R>>>,
+    /// Takes pages that aren't kept.
+    pub(crate) passing: PageSink<PartCounter>,
+    linker: PartLinker<'a, R>,
+    // What took the last page, if its part is a link to the file that it was read from.
+    linked: Option<PageSink<Digesting<PartCounter>>>,
+    rules: Option<Arc<EarlyRules>>,
+    // The SHA-256 of the body that was kept last, if digests are computed and the last page has one.
+    last: Option<[u8; 32]>,
+    /// Whether what was answered last was requested over the network.
+    pub(crate) is_requested: bool,
+    alloc: Global,
+    rt: &'a R,
+    kept: &'a KeptConnections<R::Stream>,
+    parts: &'a PartsDir<R::File>,
+}
+
+// Written by hand: a user that drops one proves a call, and nothing about its fields.
+impl<'a, R: Net + Wait + Files> Drop for PageTaker<'a, R>
+where
+    R::File: Close + Lock,
+{
+    fn drop(self) {
+        let PageTaker {
+            sink,
+            passing,
+            linker: _linker,
+            linked,
+            rules: _rules,
+            last: _last,
+            is_requested: _is_requested,
+            alloc: _alloc,
+            rt: _rt,
+            kept: _kept,
+            parts: _parts,
+        } = self;
+        drop(sink);
+        drop(passing);
+        drop(linked);
+    }
+}
+
+impl<'a, R: Net + Wait + Files> PageTaker<'a, R>
+where
+    R::File: Close + Lock,
+{
+    /// Keeps the bodies of pages by this keeper, unless these rules don't keep them. Takes no memory.
+    pub(crate) fn new(
+        rt: &'a R,
+        alloc: Global,
+        kept: &'a KeptConnections<R::Stream>,
+        parts: &'a PartsDir<R::File>,
+        keeper: Digesting<PartKeeper<'a, R>>,
+        rules: Option<Arc<EarlyRules>>,
+    ) -> PageTaker<'a, R> {
+        PageTaker {
+            sink: PageSink::new(alloc, keeper),
+            passing: PageSink::new(alloc, PartCounter::new()),
+            linker: PartLinker::new(rt, alloc, parts),
+            linked: None,
+            rules,
+            last: None,
+            is_requested: true,
+            alloc,
+            rt,
+            kept,
+            parts,
+        }
+    }
+
+    /// A page is requested that none of what is known of the last one is of.
+    pub(crate) fn begin(&mut self) {
+        self.last = None;
+        set(&mut self.linked, None);
+        self.is_requested = true;
+    }
+
+    /// Whether a page of this address is kept.
+    pub(crate) fn keeps(&self, page: &Address) -> bool {
+        match &self.rules {
+            Some(rules) => rules.keeps(page),
+            None => true,
+        }
+    }
+
+    /// Writes the bodies for whose files there was no descriptor. No connection of this worker is in use now, and those that wait are
+    /// ended.
+    pub(crate) fn write_late(&self) {
+        if self.parts.has_late(self.rt) {
+            self.kept.end_waiting(self.rt);
+            self.parts.write_late(self.rt);
+        }
+    }
+
+    /// The answer, whose body's digest is that of the last one from then on.
+    pub(crate) fn taken(&mut self, answer: Answer<Digested<KeptPart>>) -> Answer<KeptPart>
+        ensures { result ≡ without_digest answer }
+    {
+        let Answer { outcome, body } = answer;
+        let Digested { kept, digest } = body;
+        self.last = digest;
+        Answer {
+            outcome,
+            body: kept,
+        }
+    }
+
+    // A link to the file of a page's own name, if the page has a digest and the disk has such links: a file whose time counts has to keep it.
+    fn link_to(&mut self, page: &EarlierPage<'_, R::File>) -> Option<PartCounter> {
+        match page.entry().mark() {
+            Mark::Digest(_) => self.linker.link(page.own_path()?, page.file()),
+            Mark::Changed(_) => None,
+        }
+    }
+
+    // A page that was read again is the answer, if it was.
+    fn again(&mut self, read: Option<Answer<Digested<KeptPart>>>) -> Option<Answer<KeptPart>>
+        ensures { result ≡ option_map (λ answer. not_received (without_digest answer)) read }
+    {
+        match read {
+            Some(answer) => Some(not_received(self.taken(answer))),
+            None => None,
+        }
+    }
+
+    // What is read of a page's file into a sink of its own, whose part is a link to the file.
+    fn read_linked(
+        &mut self,
+        part: PartCounter,
+        at: &Address,
+        page: EarlierPage<'_, R::File>,
+        links: LinkRules,
+        limits: Limits,
+    ) -> Result<Option<Answer<Digested<KeptPart>>>, AllocError>
+        ensures { IfOk result (λ found. IfSome found (IsReadAgain holds_received (limited limits) links at.now page.entry.entry)) }
+    {
+        let mut sink = PageSink::new(self.alloc, Digesting::new(part, true));
+        match read_into(self.alloc, page, at, &mut sink, links, limits) {
+            Ok(read) => {
+                set(&mut self.linked, Some(sink));
+                Ok(read)
+            }
+            Err(error) => {
+                drop(sink);
+                Err(error)
+            }
+        }
+    }
+
+    // What is read of a page's file. Its part is a link to the file if there can be one, else a copy.
+    fn read_file(
+        &mut self,
+        at: &Address,
+        page: EarlierPage<'_, R::File>,
+        links: LinkRules,
+        limits: Limits,
+    ) -> Result<Option<Answer<Digested<KeptPart>>>, AllocError>
+        ensures { IfOk result (λ found. IfSome found (IsReadAgain holds_received (limited limits) links at.now page.entry.entry)) }
+    {
+        match self.link_to(&page) {
+            Some(part) => self.read_linked(part, at, page, links, limits),
+            None => read_into(self.alloc, page, at, &mut self.sink, links, limits),
+        }
+    }
+
+    // The page of an earlier run again, if this file of it still has the bytes that it had.
+    fn read_again(
+        &mut self,
+        at: &Address,
+        page: EarlierPage<'_, R::File>,
+        links: LinkRules,
+        limits: Limits,
+    ) -> Result<Option<Answer<KeptPart>>, AllocError>
+        ensures { IfOk result (λ found. IfSome found (IsRecordedIn (links, limited limits) at.now page.entry.entry)) }
+    {
+        let read = self.read_file(at, page, links, limits)?;
+        Ok(self.again(read))
+    }
+
+    // The same of one of two files: this one, and the other that the page may have.
+    fn read_one(
+        &mut self,
+        at: &Address,
+        mut page: EarlierPage<'_, R::File>,
+        links: LinkRules,
+        limits: Limits,
+    ) -> Result<Option<Answer<KeptPart>>, AllocError>
+        ensures { IfOk result (λ found. IfSome found (IsRecordedIn (links, limited limits) at.now page.entry.entry)) }
+    {
+        let other = page.take_other();
+        if let Some(answer) = self.read_again(at, page, links, limits)? {
+            return Ok(Some(answer));
+        }
+        match other {
+            Some(other) => self.read_again(at, other, links, limits),
+            None => Ok(None),
+        }
+    }
+
+    /// The page of an earlier run again, if one of the files that may be its, three at most, still has the bytes that it had.
+    pub(crate) fn replayed(
+        &mut self,
+        at: &Address,
+        mut page: EarlierPage<'_, R::File>,
+        links: LinkRules,
+        limits: Limits,
+    ) -> Result<Option<Answer<KeptPart>>, AllocError>
+        ensures { IfOk result (λ found. IfSome found (IsRecordedIn (links, limited limits) at.now page.entry.entry)) }
+    {
+        let other = page.take_other();
+        if let Some(answer) = self.read_again(at, page, links, limits)? {
+            return Ok(Some(answer));
+        }
+        match other {
+            Some(other) => self.read_one(at, other, links, limits),
+            None => Ok(None),
+        }
+    }
+
+    /// What an index or a journal gets of a page and its answer, the last one, as [`crate::PartsOverTcp::note`] has it.
+    pub(crate) fn note(
+        &self,
+        at: &Address,
+        answer: &Answer<KeptPart>,
+    ) -> Result<Option<IndexNote>, AllocError> {
+        let Some(status) = status_noted(answer) else {
+            return Ok(None);
+        };
+        let at = at.try_clone()?;
+        let head = match &self.linked {
+            Some(sink) => head_of(self.alloc, status, sink)?,
+            None => head_of(self.alloc, status, &self.sink)?,
+        };
+        Ok(Some(IndexNote {
+            at,
+            len: answer.body.len,
+            digest: self.last,
+            head,
+        }))
+    }
+}
+
+// This is held from now on.
+fn set<T: Drop>(held: &mut Option<T>, value: Option<T>) {
+    *held = value;
+}
+
+// Whether it is a response of this status that is no redirect.
+fn has_status(outcome: &Outcome, said: u16) -> bool
+    ensures { result ≡ has_status outcome.now said }
+{
+    match outcome {
+        Outcome::Page(status, _) | Outcome::Leaf(status) => *status == said,
+        Outcome::Moved(_, _) | Outcome::Fault(_) => false,
+    }
+}
+
+// Whether a body has this mark, as far as its bytes show it: the file that it is read from has the time of one without a digest.
+fn has_mark(body: &Digested<KeptPart>, mark: Mark) -> bool
+    ensures { IsTrue result → HasMark mark body.now.digest }
+{
+    match (mark, &body.digest) {
+        (Mark::Digest(digest), Some(own)) => own.as_slice() == digest.as_slice(),
+        (Mark::Digest(_), None) => false,
+        (Mark::Changed(_), _) => true,
+    }
+}
+
+// Whether an answer is of this status, and its body has this mark.
+fn is_recorded(answer: &Answer<Digested<KeptPart>>, mark: Mark, status: u16) -> bool
+    ensures { IsTrue result → HasMark mark answer.now.body.digest × (has_status answer.now.outcome status ≡ true) }
+{
+    has_mark(&answer.body, mark) && has_status(&answer.outcome, status)
+}
+
+// The page of an earlier run by this sink, if its file still has the bytes that it had.
+fn read_into<F: Read + Drop, K: Keeper<Kept = KeptPart>>(
+    alloc: Global,
+    page: EarlierPage<'_, F>,
+    at: &Address,
+    sink: &mut PageSink<Digesting<K>>,
+    links: LinkRules,
+    limits: Limits,
+) -> Result<Option<Answer<Digested<KeptPart>>>, AllocError>
+    ensures { IfOk result (λ found. IfSome found (IsReadAgain K.holds (limited limits) links at.now page.entry.entry)) }
+{
+    let mark = page.entry().mark();
+    let status = page.entry().head().status();
+    let mut wire = TcpWire::new(page.into_stream()?);
+    let answer = answer_over(alloc, &mut wire, at, sink, links, limits)?;
+    if is_recorded(&answer, mark, status) {
+        Ok(Some(answer))
+    } else {
+        Ok(None)
+    }
+}
+
+// An answer whose body was read from an earlier run's file.
+fn not_received(answer: Answer<KeptPart>) -> Answer<KeptPart>
+    ensures { result ≡ not_received answer }
+{
+    Answer {
+        body: KeptPart {
+            is_received: false,
+            ..answer.body
+        },
+        ..answer
+    }
+}
+
+// The status of a kept page that can be answered again from its file.
+fn status_noted(answer: &Answer<KeptPart>) -> Option<u16> {
+    match (&answer.outcome, answer.body.kind, answer.body.standing) {
+        (_, _, Standing::Lost | Standing::Absent) => None,
+        (Outcome::Page(status, _), _, _) => Some(*status),
+        (Outcome::Leaf(status), BodyKind::Other, _) => Some(*status),
+        _ => None,
+    }
+}
+
+// A copy of a value, if there is one.
+fn copy_of(alloc: Global, value: Option<&[u8]>) -> Result<Option<Vec<u8>>, AllocError> {
+    match value {
+        Some(value) => Ok(Some(Vec::from_slice(alloc, value)?)),
+        None => Ok(None),
+    }
+}
+
+// What a page's answer was recorded with, by what took it.
+fn head_of<K: Keeper>(
+    alloc: Global,
+    status: u16,
+    sink: &PageSink<K>,
+) -> Result<KeptHead, AllocError> {
+    let kind = copy_of(alloc, sink.content_type())?;
+    let tag = copy_of(alloc, sink.etag())?;
+    let changed = copy_of(alloc, sink.last_modified())?;
+    Ok(KeptHead::new(status, kind, tag, changed))
+}
