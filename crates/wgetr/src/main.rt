@@ -72,7 +72,7 @@ fn read_inputs<R: Files + Clock + Wait, W: Write>(
     }
 }
 
-// The same, where what is wrong before the words are an order goes to standard output, unless they say that nothing does.
+// The same. What is wrong before the words are an order goes to standard output, unless they say that nothing does.
 fn inputs_of_words<R: Files + Clock + Wait>(
     rt: &R,
     host: &HostRuntime,
