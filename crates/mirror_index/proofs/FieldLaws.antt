@@ -11,10 +11,10 @@ use Rattle.entry_lines.specs.Lines.{ArePlain}
 use Rattle.entry_lines.proofs.EscapeLaws.{no_space_escaped}
 use Rattle.entry_lines.proofs.FieldLaws.{plain_fields}
 use Rattle.mirror_index.specs.Cuts.{Lacks}
-use Rattle.mirror_index.specs.Entries.{Entry, Text, check_of, entry_fields, entry_line}
+use Rattle.mirror_index.specs.Entries.{Entry, Text, check_of, checked_text, entry_fields, entry_line}
 use Rattle.mirror_index.proofs.CutLaws.{cut_once, lacks-append, lacks-take, lacks_by, not_cut}
 
-spaceless : (xs : List ℕ) → HasNoSpace xs → Lacks 32 xs
+pub spaceless : (xs : List ℕ) → HasNoSpace xs → Lacks 32 xs
 spaceless [] none = tt
 spaceless (x ∷ xs) none = (none.0, spaceless xs none.1)
 
@@ -45,10 +45,13 @@ check_spaceless text = check_lacks 32 (lacks_by 32 lower_digits refl) (omega ari
 check_in_line : (text : Text) → Lacks 10 (check_of text)
 check_in_line text = check_lacks 10 (lacks_by 10 lower_digits refl) (omega arith) text
 
--- a line of an entry is one
+-- fields with their check are in one line
+pub checked_in_line : (fields : List Text) → Lacks 10 (checked_text fields)
+checked_in_line fields =
+    lacks-append 10 (fields_text fields) (check_of (fields_text fields)) (in_one_line (fields_text fields) (plain_fields fields)) (check_in_line (fields_text fields))
+
 pub entry_in_line : (e : Entry) → Lacks 10 (entry_line e)
-entry_in_line e =
-    lacks-append 10 (fields_text (entry_fields e)) (check_of (fields_text (entry_fields e))) (in_one_line (fields_text (entry_fields e)) (plain_fields (entry_fields e))) (check_in_line (fields_text (entry_fields e)))
+entry_in_line e = checked_in_line (entry_fields e)
 
 pub decimal_in_line : (n : ℕ) → n < 2 ^ 64 → Lacks 10 (decimal n)
 decimal_in_line n small =
@@ -65,7 +68,7 @@ pub record FieldsLeft (said : List Text) (after : Text) (done : List Text) (rest
 pub none_read : (said : List Text) (after line : Text) → line ≡ fields_text said ++ after → FieldsLeft said after [] line
 none_read said after line is = record { left = said; all = refl; text = is }
 
-apart : (f : Text) (fs : List Text) (after rest : Text) → rest ≡ fields_text (f ∷ fs) ++ after → rest ≡ escaped f ++ 32 ∷ (fields_text fs ++ after)
+pub apart : (f : Text) (fs : List Text) (after rest : Text) → rest ≡ fields_text (f ∷ fs) ++ after → rest ≡ escaped f ++ 32 ∷ (fields_text fs ++ after)
 apart f fs after rest is = is ∙ append_assoc (escaped f) (32 ∷ fields_text fs) after
 
 pub one_read : (said : List Text) (after : Text) (done : List Text) (rest field later value : Text) → Lacks 32 after → FieldsLeft said after done rest

@@ -5,3 +5,4 @@ pub mod IndexLaws
 pub mod ReadLaws
 pub mod ShortLaws
 pub mod StepLaws
+pub mod TextLaws

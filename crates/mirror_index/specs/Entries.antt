@@ -60,6 +60,10 @@ checked_text fields = fields_text fields ++ check_of (fields_text fields)
 abbrev pub entry_line : Entry → Text
 entry_line e = checked_text (entry_fields e)
 
+-- the line of a text, which is its one field
+abbrev pub text_line : Text → Text
+text_line text = checked_text (text ∷ [])
+
 -- ---- which entries may be
 
 -- a name leads nowhere but below its folder, is a text without control bytes, and isn't that of a file of the program's own

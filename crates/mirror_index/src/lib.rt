@@ -15,8 +15,10 @@ mod entry;
 mod index;
 mod line;
 mod reading;
+mod texts;
 
 pub use crate::entry::{Entry, KeptHead, MAX_LINE, Mark, digest_of};
 pub use crate::index::{MAX_ENTRIES, MirrorIndex};
 pub use crate::line::{entry_line, read_line};
 pub use crate::reading::{IndexFault, IndexWriteFault, MAX_INDEX, read_index, write_index};
+pub use crate::texts::{read_text, text_line};

@@ -90,9 +90,9 @@ fn entry_text(alloc: Global, entry: &Entry) -> Result<Vec<u8>, AllocError>
     Ok(text)
 }
 
-// What shows that a text wasn't damaged.
+/// What shows that a text wasn't damaged.
 #[tactic(auto, unfolding(crate::specs::Entries::check_of))]
-fn check_of(alloc: Global, text: &[u8]) -> Result<Vec<u8>, AllocError>
+pub(crate) fn check_of(alloc: Global, text: &[u8]) -> Result<Vec<u8>, AllocError>
     ensures { IfOk result (λ check. check.items ≡ check_of text.now) }
 {
     let mut digits = hex::encode(alloc, digest_of(text))?.into_bytes();
@@ -111,8 +111,8 @@ pub fn entry_line(alloc: Global, entry: &Entry) -> Result<Vec<u8>, AllocError>
     Ok(line)
 }
 
-// The fields of a line that have a space after them.
-fn fields_of(alloc: Global, line: &[u8]) -> Result<Vec<Vec<u8>>, AllocError>
+/// The fields of a line that have a space after them.
+pub(crate) fn fields_of(alloc: Global, line: &[u8]) -> Result<Vec<Vec<u8>>, AllocError>
     ensures { IfOk result (λ fields. (said : List Text) (after : Text) → Lacks 32 after → line.now ≡ fields_text said ++ after → map (λ f. f.items) fields.items ≡ said) }
 {
     let mut fields = Vec::new(alloc);

@@ -1,5 +1,5 @@
 -- The texts are short, and so the line is.
-use Rattle.std.proofs.Common.{◌≡◌, ◌<◌, ◌^◌, ◌∙◌, option_map, subst}
+use Rattle.std.proofs.Common.{◌<◌, ◌^◌, ◌∙◌, option_map, subst}
 use Rattle.address.specs.Address.{IsAddress}
 use Rattle.mirror_index.specs.Entries.{HasParts, KeptHead}
 use Rattle.mirror_index.proofs.ShortLaws.{surely_short}

@@ -1,12 +1,11 @@
 -- A mark that was written is read back: no digit is an `@`.
-use Rattle.std.proofs.Common.{◌≡◌, ◌≢◌, ◌∷◌, ℕ, true, List, [], refl, sym, ◌∙◌, ap, subst, drop, take, arith}
+use Rattle.std.proofs.Common.{◌≡◌, ◌∷◌, true, [], refl, sym, ◌∙◌, ap, subst, drop, take, arith}
 use Rattle.std.specs.Prelude.{nat_eq}
 use Rattle.std.specs.Cmp.Lexicographic.{pointwise}
 use Rattle.std.proofs.lemmas.Bool.Decides.{nat_tests}
 use Rattle.hex.specs.Hex.{lower_digits}
 use Rattle.mirror_index.specs.Cuts.{Lacks}
 use Rattle.mirror_index.specs.Entries.{Text}
-use Rattle.mirror_index.specs.declared.entry.Mark.{Mark}
 use Rattle.mirror_index.specs.declared.entry.Mark.TheVariants.{Changed, Digest}
 use Rattle.mirror_index.proofs.CutLaws.{lacks_by}
 use Rattle.mirror_index.proofs.FieldLaws.{encoded_lacks}
