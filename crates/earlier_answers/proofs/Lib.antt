@@ -1,0 +1,4 @@
+pub mod ChainLaws
+mod FieldLaws
+mod KeptLaws
+mod TextLaws

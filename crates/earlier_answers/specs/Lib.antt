@@ -1,0 +1,4 @@
+pub mod Texts
+pub mod Sayings
+pub mod Heads
+pub mod inner
