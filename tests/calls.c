@@ -5,7 +5,7 @@
 // file's name, the host or the address.
 //
 // CALLS_PLAN has plans with a comma between two, each `CALL NAME WHAT`, for the calls fsync, fdatasync, close, flock, fstat (a statx of
-// an open file), futimens, link, unlink, rename, recv, send, read, write, connect and getaddrinfo. NAME is the last part of the name of
+// an open file), lstat (one of a path), futimens, link, unlink, rename, recv, send, read, write, connect and getaddrinfo. NAME is the last part of the name of
 // the file (of link and rename that which it had), or the host; * is any. WHAT is
 //   E..            the call fails with this error: EIO, or ENOSPC; a close closes all the same
 //   EINTR          the first such call is interrupted
@@ -15,6 +15,7 @@
 //   A+B..          getaddrinfo answers these addresses, in this order
 //   never          getaddrinfo doesn't answer as long as a test lasts
 //   long           fstat says that the file is 2^31 bytes longer
+//   seconds        lstat says when a file was changed last in whole seconds
 //   small          a connection has as little room as can be for what is sent
 #define _GNU_SOURCE
 #include <arpa/inet.h>
@@ -163,6 +164,9 @@ int statx(int dir, const char *path, int flags, unsigned mask, struct statx *fou
     plan = *path ? NULL : plan_of("fstat", last_of(at));
     if (!failed && plan && !strcmp(plan, "long"))
         found->stx_size += 1u << 31;
+    plan = *path ? plan_of("lstat", last_of(path)) : NULL;
+    if (!failed && plan && !strcmp(plan, "seconds"))
+        found->stx_ctime.tv_nsec = 0;
     return failed;
 }
 

@@ -2,7 +2,7 @@
 ghost use Rattle.std.specs.Prelude.{◌≡◌, IfSome};
 ghost use Rattle.mirror_index.specs.Indexes.{HasThis};
 
-use crate::change_time::changed_at;
+use crate::change_time::{changed_at, shows_changes};
 use crate::earlier_page::{EarlierPage, FoundFile};
 use address::Address;
 use mirror_index::{Entry, Mark, MirrorIndex};
@@ -46,7 +46,7 @@ fn may_be_of(found: &Metadata, entry: &Entry) -> bool {
     }
     match entry.mark() {
         Mark::Digest(_) => true,
-        Mark::Changed(time) => changed_at(found) == Some(time),
+        Mark::Changed(time) => shows_changes(time) && changed_at(found) == Some(time),
     }
 }
 

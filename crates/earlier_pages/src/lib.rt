@@ -15,7 +15,7 @@ mod earlier_page;
 mod earlier_pages;
 mod recorded_stream;
 
-pub use crate::change_time::changed_at;
+pub use crate::change_time::{changed_at, shows_changes};
 pub use crate::earlier_page::EarlierPage;
 pub use crate::earlier_pages::EarlierPages;
 pub use crate::recorded_stream::RecordedStream;

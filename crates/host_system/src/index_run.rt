@@ -6,10 +6,11 @@ ghost use Rattle.host_system.specs.declared.index_run.BeginFault.TheVariants.{Un
 use crate::index_end::IndexEnd;
 use crate::index_file::{INDEX, IndexSight, index_of, own_path, sight_of, tell};
 use crate::index_starts::says_starts;
-use crate::journal::{JOURNAL, LeftJournal, SharedJournal, left_at, text_of};
+use crate::journal::{JOURNAL, LeftJournal, LeftRun, SharedJournal, left_at, text_of};
 use crate::removed_files::remove_all;
 use crate::shared_failures::SharedFailures;
 use address::Address;
+use earlier_answers::EarlierAnswers;
 use earlier_pages::EarlierPages;
 use fetcher::{FaultClass, Outcome};
 use harvest::Harvest;
@@ -134,8 +135,8 @@ fn takes_nothing(upkeep: Upkeep) -> bool
 
 // What is taken of what was left at the place of the journal.
 enum Usable<F> {
-    // These pages, perhaps none, and the file that they are in.
-    Pages(MirrorIndex, Option<F>),
+    // This, perhaps nothing, and the file that it is in.
+    Run(LeftRun, Option<F>),
     // Nothing: a run that is at work has its journal there, so this one has none.
     Theirs,
 }
@@ -163,8 +164,10 @@ pub struct IndexRun<F: Drop> {
     alloc: Global,
     // None before a run begins.
     begun: Mutex<Option<Arc<BegunRun>>>,
-    // The pages of this run with the names that they have early, perhaps empty ones, if an index is kept.
+    // The pages of this run with the names that they have early, perhaps empty ones, if they are noted until the end.
     pages: Mutex<Vec<Entry>>,
+    // The texts of what was received without a file, likewise.
+    answers: Mutex<Vec<Vec<u8>>>,
     journal: Mutex<SharedJournal<F>>,
     // None before all files were put.
     put: Mutex<Option<Put>>,
@@ -177,6 +180,7 @@ impl<F: Drop> Drop for IndexRun<F> {
             alloc: _alloc,
             begun: _begun,
             pages: _pages,
+            answers: _answers,
             journal: _journal,
             put: _put,
         } = self;
@@ -203,15 +207,20 @@ fn in_common<T: Drop>(alloc: Global, value: T) -> Result<Arc<T>, AllocError> {
     Ok(Arc::new(alloc, value)?)
 }
 
-// One more page is noted.
-fn push(pages: &mut Vec<Entry>, page: Entry) -> Result<(), AllocError> {
-    pages.push(page)?;
+// One more is noted.
+fn push<T: Drop>(noted: &mut Vec<T>, one: T) -> Result<(), AllocError> {
+    noted.push(one)?;
     Ok(())
 }
 
-// All pages, of which there are none from then on.
-fn take(alloc: Global, pages: &mut Vec<Entry>) -> Vec<Entry> {
-    mem::replace(pages, Vec::new(alloc))
+// All that were noted, of which there are none from then on.
+fn take<T: Drop>(alloc: Global, noted: &mut Vec<T>) -> Vec<T> {
+    mem::replace(noted, Vec::new(alloc))
+}
+
+// These are noted from now on.
+fn set_all<T: Drop>(noted: &mut Vec<T>, all: Vec<T>) {
+    *noted = all;
 }
 
 // What was put, which nothing was from then on.
@@ -309,6 +318,7 @@ impl<F: Drop> IndexRun<F> {
             alloc,
             begun: Mutex::new(None),
             pages: Mutex::new(Vec::new(alloc)),
+            answers: Mutex::new(Vec::new(alloc)),
             journal: Mutex::new(SharedJournal::none(alloc)),
             put: Mutex::new(None),
         }
@@ -326,8 +336,8 @@ impl<F: Drop> IndexRun<F> {
         ensures { result ≡ Err Unfit → upkeep.continues ≡ true }
     {
         let why = match left {
-            LeftJournal::Nothing => return Ok(Usable::Pages(MirrorIndex::new(self.alloc), None)),
-            LeftJournal::Pages(pages, file) => return Ok(Usable::Pages(pages, Some(file))),
+            LeftJournal::Nothing => return Ok(Usable::Run(LeftRun::nothing(self.alloc), None)),
+            LeftJournal::Run(left, file) => return Ok(Usable::Run(left, Some(file))),
             LeftJournal::Busy if !upkeep.continues => return Ok(Usable::Theirs),
             LeftJournal::Busy => String::from_str(self.alloc, "is of a run that is at work")?,
             LeftJournal::Unfit(why) => why,
@@ -351,18 +361,18 @@ impl<F: Drop> IndexRun<F> {
             why.as_str(),
             "nothing of it is taken",
         )?;
-        Ok(Usable::Pages(MirrorIndex::new(self.alloc), None))
+        Ok(Usable::Run(LeftRun::nothing(self.alloc), None))
     }
 
-    // The pages of a stopped run, if this one takes anything of them, after what is to be said of them was said to a person. Its own journal
-    // is kept from now on, unless another run that is at work has one there.
+    // What a stopped run left, if this one takes anything of it, after what is to be said of it was said to a person. Its own journal is kept
+    // from now on, unless another run that is at work has one there. A run that requests all anew takes no answers.
     fn begin_journal<R: Wait + Files<File = F>>(
         &self,
         rt: &R,
         failures: &SharedFailures,
         folder: &str,
         order: &Order,
-    ) -> Result<MirrorIndex, BeginFault>
+    ) -> Result<LeftRun, BeginFault>
     where
         F: Lock,
         ensures { result ≡ Err Unfit → order.now.upkeep.continues ≡ true }
@@ -371,9 +381,19 @@ impl<F: Drop> IndexRun<F> {
         let plan = &order.plan;
         let first = first_line(self.alloc, &plan.start, plan.others.as_slice())?;
         let left = left_at(rt, self.alloc, path.as_str(), first.as_slice())?;
-        let (pages, left) = match self.usable(rt, failures, path.as_str(), left, order.upkeep)? {
-            Usable::Pages(pages, file) => (pages, file),
-            Usable::Theirs => return Ok(MirrorIndex::new(self.alloc)),
+        let (stopped, left) = match self.usable(rt, failures, path.as_str(), left, order.upkeep)? {
+            Usable::Run(stopped, file) => (stopped, file),
+            Usable::Theirs => return Ok(LeftRun::nothing(self.alloc)),
+        };
+        let LeftRun {
+            pages,
+            answers,
+            texts,
+        } = stopped;
+        let (answers, texts) = if order.upkeep.timestamps {
+            (EarlierAnswers::new(self.alloc), Vec::new(self.alloc))
+        } else {
+            (answers, texts)
         };
         if left.is_some() && takes_nothing(order.upkeep) {
             let count = pages.len();
@@ -390,13 +410,17 @@ impl<F: Drop> IndexRun<F> {
         let front = if takes_nothing(order.upkeep) {
             first.as_slice().to_vec(self.alloc)?
         } else {
-            text_of(self.alloc, first.as_slice(), &pages)?
+            text_of(self.alloc, first.as_slice(), &pages, texts.as_slice())?
         };
         let journal = Journal::new(self.alloc, path, front, left);
         let folder = String::from_str(self.alloc, folder)?;
         let journal = SharedJournal::of(self.alloc, folder, first, journal);
         set_journal(&mut self.journal.lock(rt), journal);
-        Ok(pages)
+        Ok(LeftRun {
+            pages,
+            answers,
+            texts,
+        })
     }
 
     // What is known of earlier runs' pages below a folder, by these of one that was stopped and by the index.
@@ -439,16 +463,18 @@ impl<F: Drop> IndexRun<F> {
         })
     }
 
-    // These pages of earlier runs below a folder.
+    // These pages of earlier runs below a folder, and these answers.
     fn earlier_of(
         &self,
         folder: &str,
         upkeep: Upkeep,
         known: MirrorIndex,
+        answers: EarlierAnswers,
     ) -> Result<Arc<Earlier>, AllocError> {
         let folder = String::from_str(self.alloc, folder)?;
         let earlier = Earlier {
             pages: EarlierPages::new(self.alloc, folder, known),
+            answers,
             is_asked: upkeep.timestamps,
         };
         in_common(self.alloc, earlier)
@@ -470,7 +496,7 @@ impl<F: Drop> IndexRun<F> {
     {
         let upkeep = order.upkeep;
         let folder = String::from_str(self.alloc, order.prefix.as_str())?;
-        let stopped = self.begin_journal(rt, failures, folder.as_str(), order)?;
+        let left = self.begin_journal(rt, failures, folder.as_str(), order)?;
         let plan = &order.plan;
         let starts = first_line(self.alloc, &plan.start, plan.others.as_slice())?;
         let index = own_path(self.alloc, folder.as_str(), INDEX)?;
@@ -487,9 +513,10 @@ impl<F: Drop> IndexRun<F> {
             folder.as_str(),
             upkeep,
             starts.as_slice(),
-            stopped,
+            left.pages,
         )?;
-        let earlier = self.earlier_of(folder.as_str(), upkeep, pages)?;
+        let earlier = self.earlier_of(folder.as_str(), upkeep, pages, left.answers)?;
+        self.note_answers(rt, left.texts);
         let begun = BegunRun {
             folder,
             upkeep,
@@ -541,6 +568,16 @@ impl<F: Drop> IndexRun<F> {
     /// Notes a page for the index.
     pub(crate) fn add_page<R: Wait>(&self, rt: &R, page: Entry) -> Result<(), AllocError> {
         push(&mut self.pages.lock(rt), page)
+    }
+
+    /// Notes what was received without a file, by its text, for a journal that is written anew.
+    pub(crate) fn add_answer<R: Wait>(&self, rt: &R, answer: Vec<u8>) -> Result<(), AllocError> {
+        push(&mut self.answers.lock(rt), answer)
+    }
+
+    // These texts are of an earlier run that this one goes on with.
+    fn note_answers<R: Wait>(&self, rt: &R, answers: Vec<Vec<u8>>) {
+        set_all(&mut self.answers.lock(rt), answers);
     }
 
     /// Pages, whose addresses are in order, are to be put under these names: files of earlier runs' pages give way, if any are known, and
@@ -653,7 +690,10 @@ impl<F: Drop> IndexRun<F> {
         F: Write + Lock,
     {
         let pages = joined(self.alloc, begun.earlier.pages.index(), &put.pages)?;
-        self.journal.lock(rt).write_anew(rt, self.alloc, &pages)
+        let answers = take(self.alloc, &mut self.answers.lock(rt));
+        self.journal
+            .lock(rt)
+            .write_anew(rt, self.alloc, &pages, answers.as_slice())
     }
 
     // Removes the bodies in the program's own directory of the pages that were put, and of earlier ones: no run goes on with them.

@@ -1,8 +1,9 @@
-//! The journal of each run, below its folder: the pages whose files are there already, so that another run goes on if this one is stopped.
-//! Its first line has its version and the STARTs, and each further one is an entry as the index has them. How it is written is
-//! `run_journal`'s.
+//! The journal of each run, below its folder: the pages whose files are there already, and what was received without a file, so that
+//! another run goes on if this one is stopped. Its first line has its version and the STARTs, and each further one is an entry as the index
+//! has them, or a text of `earlier_answers`. How it is written is `run_journal`'s.
+use earlier_answers::EarlierAnswers;
 use mirror_index::{MAX_INDEX, MirrorIndex};
-use mirror_upkeep::{push_entry, read_journal, reason};
+use mirror_upkeep::{StoppedRun, push_answer, push_entry, read_journal, reason};
 use run_journal::Journal;
 use std::alloc::{AllocError, Global};
 use std::fs::{File, Files};
@@ -14,12 +15,34 @@ use system_disk::{SystemDisk, SystemFolder};
 /// What it is called, directly below the folder. No page has a name that begins so.
 pub(crate) const JOURNAL: &str = ".wgetr%journal";
 
+/// What a journal says.
+#[derive(Drop)]
+pub(crate) struct LeftRun {
+    /// Which pages have their files.
+    pub(crate) pages: MirrorIndex,
+    /// What was received without a file.
+    pub(crate) answers: EarlierAnswers,
+    /// The texts of that.
+    pub(crate) texts: Vec<Vec<u8>>,
+}
+
+impl LeftRun {
+    /// Nothing. Takes no memory.
+    pub(crate) fn nothing(alloc: Global) -> LeftRun {
+        LeftRun {
+            pages: MirrorIndex::new(alloc),
+            answers: EarlierAnswers::new(alloc),
+            texts: Vec::new(alloc),
+        }
+    }
+}
+
 /// What an earlier run left at the place of a journal.
 pub(crate) enum LeftJournal<F> {
     /// Nothing.
     Nothing,
-    /// These pages, and the journal, which this run holds.
-    Pages(MirrorIndex, F),
+    /// This, and the journal, which this run holds.
+    Run(LeftRun, F),
     /// Nothing that can be gone on with, and why.
     Unfit(String),
     /// The journal of a run that is at work.
@@ -31,8 +54,39 @@ fn unfit<F>(alloc: Global, why: &str) -> Result<LeftJournal<F>, AllocError> {
     Ok(LeftJournal::Unfit(String::from_str(alloc, why)?))
 }
 
-// The pages of an open journal that begins with this line, and which this run holds.
-fn pages_in<F: io::Read + Drop>(
+// What these texts say. None if one of them is no answer's.
+fn answers_in(alloc: Global, texts: &[Vec<u8>]) -> Result<Option<EarlierAnswers>, AllocError> {
+    let mut answers = EarlierAnswers::new(alloc);
+    for text in texts {
+        if !answers.add(text.as_slice())? {
+            return Ok(None);
+        }
+    }
+    Ok(Some(answers))
+}
+
+// What is said by a journal whose lines were read, and which this run holds.
+fn left_run<F: Drop>(
+    alloc: Global,
+    stopped: StoppedRun,
+    file: F,
+) -> Result<LeftJournal<F>, AllocError> {
+    let (pages, texts) = stopped.into_parts();
+    match answers_in(alloc, texts.as_slice())? {
+        Some(answers) => Ok(LeftJournal::Run(
+            LeftRun {
+                pages,
+                answers,
+                texts,
+            },
+            file,
+        )),
+        None => unfit(alloc, "has an answer that isn't written"),
+    }
+}
+
+// What is said by an open journal that begins with this line, and which this run holds.
+fn run_in<F: io::Read + Drop>(
     alloc: Global,
     file: F,
     first: &[u8],
@@ -45,7 +99,7 @@ fn pages_in<F: io::Read + Drop>(
         Err(ReadInputFault::Memory) => return Err(AllocError),
     };
     match read_journal(alloc, bytes.as_slice(), first) {
-        Ok(pages) => Ok(LeftJournal::Pages(pages, file)),
+        Ok(stopped) => left_run(alloc, stopped, file),
         Err(fault) => Ok(LeftJournal::Unfit(reason(alloc, fault)?)),
     }
 }
@@ -77,18 +131,22 @@ where
     if !file.hold().unwrap_or(true) {
         return Ok(LeftJournal::Busy);
     }
-    pages_in(alloc, file, first)
+    run_in(alloc, file, first)
 }
 
-/// The text of a journal with this first line and these pages.
+/// The text of a journal with this first line, these pages and these answers.
 pub(crate) fn text_of(
     alloc: Global,
     first: &[u8],
     pages: &MirrorIndex,
+    answers: &[Vec<u8>],
 ) -> Result<Vec<u8>, AllocError> {
     let mut text = first.to_vec(alloc)?;
     for entry in pages.entries() {
         push_entry(alloc, &mut text, entry)?;
+    }
+    for answer in answers {
+        push_answer(alloc, &mut text, answer.as_slice())?;
     }
     Ok(text)
 }
@@ -156,17 +214,18 @@ impl<F: Drop> SharedJournal<F> {
         }
     }
 
-    /// Has it say just these pages: the run has ended, and is gone on with by these. If that fails it stays as it is.
+    /// Has it say just these pages and answers: the run has ended, and is gone on with by these. If that fails it stays as it is.
     pub(crate) fn write_anew<R: Files<File = F>>(
         &mut self,
         rt: &R,
         alloc: Global,
         pages: &MirrorIndex,
+        answers: &[Vec<u8>],
     ) -> io::Result<()>
     where
         F: Write + Lock,
     {
-        let text = text_of(alloc, self.first.as_slice(), pages)?;
+        let text = text_of(alloc, self.first.as_slice(), pages, answers)?;
         let mut disk = SystemDisk::new(rt, &mut self.folder);
         match self
             .journal

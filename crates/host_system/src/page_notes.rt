@@ -1,11 +1,11 @@
-//! What one worker notes of the pages that it kept, for the run's journal and its index.
+//! What one worker notes of what it received, for the run's journal and its index.
 use crate::index_run::{BegunRun, IndexRun};
 use crate::journal::JOURNAL;
 use crate::shared_failures::SharedFailures;
 use address::Address;
-use earlier_pages::changed_at;
+use earlier_pages::{changed_at, shows_changes};
 use mirror_index::{Entry, Mark};
-use mirror_upkeep::{is_anothers, push_entry};
+use mirror_upkeep::{is_anothers, push_answer, push_entry};
 use std::alloc::{AllocError, Global};
 use std::fs::Files;
 use std::io;
@@ -14,8 +14,8 @@ use std::sync::{Arc, Wait};
 use streams::Lock;
 use tcp_fetcher::IndexNote;
 
-/// What one worker notes of the pages that it kept. It shares once what the run was begun with, and keeps the room for a path and a line:
-/// a page takes no lock for these, and mostly no memory.
+/// What one worker notes of what it received. It shares once what the run was begun with, and keeps the room for a path and for lines: a
+/// page takes no lock for these, and mostly no memory.
 pub(crate) struct PageNotes<'a, F: Drop> {
     alloc: Global,
     index: &'a IndexRun<F>,
@@ -23,8 +23,8 @@ pub(crate) struct PageNotes<'a, F: Drop> {
     begun: Option<Arc<BegunRun>>,
     // The path of the last page's file.
     path: String,
-    // Its line.
-    line: Vec<u8>,
+    // Lines that the journal hasn't yet: it begins once the run has a directory of its own.
+    lines: Vec<u8>,
 }
 
 // Written by hand: a user that drops one proves a call, and nothing about its fields.
@@ -35,7 +35,7 @@ impl<'a, F: Drop> Drop for PageNotes<'a, F> {
             index: _index,
             begun: _begun,
             path: _path,
-            line: _line,
+            lines: _lines,
         } = self;
     }
 }
@@ -49,7 +49,7 @@ fn set_path(path: &mut String, folder: &str, name: &str) -> Result<(), AllocErro
 }
 
 // By what one sees later that a page's file has the bytes of its body: their digest, or when the file of this name was changed last, whose
-// path is in `path` then. None if no digest was computed and the page has no file yet.
+// path is in `path` then. None if no digest was computed and the page has no file yet, or the disk keeps no more than seconds.
 fn mark_of<R: Files>(
     rt: &R,
     path: &mut String,
@@ -66,8 +66,8 @@ fn mark_of<R: Files>(
     set_path(path, folder, name)?;
     let found = rt.symlink_metadata(path.as_str())?;
     match changed_at(&found) {
-        Some(time) => Ok(Some(Mark::Changed(time))),
-        None => Ok(None),
+        Some(time) if shows_changes(time) => Ok(Some(Mark::Changed(time))),
+        _ => Ok(None),
     }
 }
 
@@ -90,7 +90,7 @@ impl<'a, F: Drop> PageNotes<'a, F> {
             index,
             begun: index.begun(rt),
             path: String::new(alloc),
-            line: Vec::new(alloc),
+            lines: Vec::new(alloc),
         }
     }
 
@@ -102,6 +102,57 @@ impl<'a, F: Drop> PageNotes<'a, F> {
                 !is_anothers(entries, begun.by_name.as_slice(), name, at)
             }
             None => true,
+        }
+    }
+
+    // Adds the lines to the journal that it hasn't yet.
+    fn add_lines<R: Wait + Files<File = F>>(&mut self, rt: &R, own: &str) -> io::Result<()>
+    where
+        F: Write + Lock,
+    {
+        let added = self.index.add_line(rt, own, self.lines.as_slice());
+        self.lines.clear();
+        added
+    }
+
+    // Notes what was received without a file, by its text.
+    fn try_note_answer<R: Wait + Files<File = F>>(
+        &mut self,
+        rt: &R,
+        own: &str,
+        text: Vec<u8>,
+    ) -> io::Result<()>
+    where
+        F: Write + Lock,
+    {
+        let Some(begun) = &self.begun else {
+            return Ok(());
+        };
+        let is_noted = begun.notes_pages();
+        push_answer(self.alloc, &mut self.lines, text.as_slice())?;
+        if is_noted {
+            self.index.add_answer(rt, text)?;
+        }
+        if own.is_empty() {
+            return Ok(());
+        }
+        self.add_lines(rt, own)
+    }
+
+    /// Notes what was received without a file, by its text; `own` is the run's own directory, or empty if it has none yet. What can't be
+    /// noted is requested by the next run, too.
+    pub(crate) fn note_answer<R: Wait + Files<File = F>>(
+        &mut self,
+        rt: &R,
+        failures: &SharedFailures,
+        own: &str,
+        text: Vec<u8>,
+    )
+    where
+        F: Write + Lock,
+    {
+        if let Err(error) = self.try_note_answer(rt, own, text) {
+            failures.fail(rt, JOURNAL, &error);
         }
     }
 
@@ -125,12 +176,12 @@ impl<'a, F: Drop> PageNotes<'a, F> {
         };
         let is_named = name.is_some();
         let entry = entry_of(note, name.unwrap_or(String::new(self.alloc)), mark);
+        let is_noted = begun.notes_pages();
         if is_named {
-            self.line.clear();
-            push_entry(self.alloc, &mut self.line, &entry)?;
-            self.index.add_line(rt, own, self.line.as_slice())?;
+            push_entry(self.alloc, &mut self.lines, &entry)?;
+            self.add_lines(rt, own)?;
         }
-        if begun.notes_pages() {
+        if is_noted {
             self.index.add_page(rt, entry)?;
         }
         Ok(())

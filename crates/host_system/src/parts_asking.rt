@@ -95,9 +95,8 @@ where
         DiskFolder::new(self.rt, self.alloc, path.as_str()).ok()
     }
 
-    // Has the worker know the run's own directory, which was made for a part, and have a folder. Whether it does: there may be no memory
-    // for them.
-    fn find_folder(&mut self) -> bool
+    // Has the worker know the run's own directory, if that was made.
+    fn find_own(&mut self)
         ensures { self.new.inner ≡ self.old.inner }
     {
         if self.own.is_empty() {
@@ -105,6 +104,14 @@ where
                 self.own = own;
             }
         }
+    }
+
+    // Has the worker know the run's own directory, which was made for a part, and have a folder. Whether it does: there may be no memory
+    // for them.
+    fn find_folder(&mut self) -> bool
+        ensures { self.new.inner ≡ self.old.inner }
+    {
+        self.find_own();
         if self.folder.is_none() {
             self.folder = self.new_folder();
         }
@@ -180,6 +187,26 @@ where
         }
     }
 
+    // Notes what was received without a file, if anything was.
+    fn note_text(&mut self, text: Option<Vec<u8>>)
+        ensures { self.new.inner ≡ self.old.inner }
+    {
+        let Some(text) = text else {
+            return;
+        };
+        self.find_own();
+        self.notes
+            .note_answer(self.rt, self.failures, self.own.as_str(), text);
+    }
+
+    // Notes the answer of a page, the last one, if it has no file. If there is no memory for it, the next run requests the page, too.
+    fn note_answer(&mut self, at: &Address, answer: &Answer<KeptPart>)
+        ensures { self.new.inner ≡ self.old.inner }
+    {
+        let text = self.inner.answer_text(at, answer).unwrap_or(None);
+        self.note_text(text);
+    }
+
     // Keeps that the last connection was lost, which was to request this origin's robots file.
     fn note_robots(&self, of: &Origin) {
         if let Some(kind) = self.inner.loss() {
@@ -210,6 +237,7 @@ where
         let answer = self.inner.ask(at)?;
         self.note_page(at);
         let note = self.note_of(at, &answer);
+        self.note_answer(at, &answer);
         let Answer { outcome, body } = answer;
         let body = self.named(at, body, note);
         Ok(Answer { outcome, body })
@@ -218,6 +246,8 @@ where
     fn ask_robots(&mut self, of: &Origin) -> Result<RuleSet, AllocError> {
         let rules = self.inner.ask_robots(of)?;
         self.note_robots(of);
+        let chain = self.inner.take_chain();
+        self.note_text(chain);
         Ok(rules)
     }
 

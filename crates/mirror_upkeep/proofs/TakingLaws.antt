@@ -19,8 +19,7 @@ use Rattle.mirror_index.specs.Entries.{Entry, IsEntry}
 use Rattle.mirror_index.specs.Indexes.{Follows, IsIndex}
 use Rattle.mirror_index.specs.declared.index.TheConstants.{MAX_ENTRIES}
 use Rattle.mirror_index.proofs.IndexLaws.{one_more}
-use Rattle.mirror_upkeep.specs.Journals.{AreWritten}
-use Rattle.mirror_upkeep.specs.Latest.{IsIndexOf, IsWholeIndexOf, if_of, later_or, latest}
+use Rattle.mirror_upkeep.specs.Latest.{ArePages, IsIndexOf, IsWholeIndexOf, if_of, later_or, latest}
 use Rattle.mirror_upkeep.specs.inner.Taking.{IsFalling, IsTaken, LastIs, Taking}
 use Rattle.mirror_upkeep.proofs.LatestLaws.{eq_itself, eq_same, if_of-own, later_or-none, latest-append, latest-end, latest-is}
 
@@ -85,7 +84,7 @@ none_taken = record {
   fit = λ written. refl;
 }
 
-written-rest : (e : Entry) (es : List Entry) → AreWritten (e ∷ es) → AreWritten es
+written-rest : (e : Entry) (es : List Entry) → ArePages (e ∷ es) → ArePages es
 written-rest e es written = let few = written.few in record { each = All-tail IsEntry e es written.each; few = omega arith }
 
 -- one more of the address before
@@ -246,7 +245,7 @@ made_whole first es left index whole last same none t is =
     let taken = all_taken es index whole last (subst (λ (l : List Entry). Taking es l index whole last) none t) in
     record { good = taken.good; each = λ at. taken.whole is at ∙ same at }
 
-pub made_all : (first es left index : List Entry) (whole : Bool) (last : Option AddressText) → IsPermutation first es → left ≡ [] → Taking es left index whole last → AreWritten first → whole ≡ true
+pub made_all : (first es left index : List Entry) (whole : Bool) (last : Option AddressText) → IsPermutation first es → left ≡ [] → Taking es left index whole last → ArePages first → whole ≡ true
 made_all first es left index whole last moved none t written =
     let taken = all_taken es index whole last (subst (λ (l : List Entry). Taking es l index whole last) none t) in
     taken.fit (record { each = All-permutation IsEntry first es moved written.each; few = let long = length_permutation first es moved in let few = written.few in omega arith })

@@ -1,5 +1,5 @@
 -- A journal's text has no zero, so that what is before the first zero of what a crash left is a front of it.
-use Rattle.std.proofs.Common.{◌≡◌, ◌≢◌, ◌∙◌, ◌<◌, ◌/◌, ◌%◌, ◌==◌, ◌⊎◌, inl, inr, ℕ, zero, suc, Bool, true, false, List, [], ◌∷◌, ◌++◌, length, take, drop, get_or, refl, sym, ap, subst, arith, eqb}
+use Rattle.std.proofs.Common.{◌≡◌, ◌≢◌, ◌∙◌, ◌<◌, ◌/◌, ◌%◌, ◌==◌, ◌⊎◌, inl, inr, ℕ, zero, suc, Bool, true, false, List, [], ◌∷◌, ◌++◌, length, take, drop, get_or, refl, sym, ap, subst, arith}
 use Rattle.std.specs.Prelude.{All, if◌then◌else◌}
 use Rattle.std.specs.Int.{byte_at, bytes_high_first, to_be_bytes, w32}
 use Rattle.std.proofs.lemmas.Bool.{eq-eqb, eqb-true}
@@ -12,10 +12,9 @@ use Rattle.entry_lines.proofs.FieldLaws.{plain_fields}
 use Rattle.hex.specs.Hex.{encode_lower, encode_with, lower_digits}
 use Rattle.memchr.specs.Find.{Nowhere, Passes, is_byte}
 use Rattle.mirror_index.specs.Cuts.{Lacks}
-use Rattle.mirror_index.specs.Entries.{Entry, Text, check_of, entry_fields, entry_line}
-use Rattle.mirror_index.specs.Indexes.{lines}
+use Rattle.mirror_index.specs.Entries.{Text, check_of, checked_text, entry_fields}
 use Rattle.mirror_index.proofs.CutLaws.{found_at, found_nowhere, lacks-append, lacks-take, lacks_by}
-use Rattle.mirror_upkeep.specs.Journals.{Begins, before_zero, first_line, starts_text, version}
+use Rattle.mirror_upkeep.specs.Journals.{Answer, Begins, Page, Said, before_zero, first_line, lines, said_line, starts_text, version}
 use Rattle.sha2.specs.Sha256.{digest_bytes, final_hash, initial_hash_256, sha256}
 
 -- ---- digests are bytes
@@ -68,12 +67,16 @@ plain_some : (xs : List ℕ) → ArePlain xs → Lacks 0 xs
 plain_some [] are = tt
 plain_some (x ∷ xs) are = (are.0, plain_some xs are.2)
 
-line_some : (e : Entry) → Lacks 0 (entry_line e)
-line_some e = lacks-append 0 (fields_text (entry_fields e)) (check_of (fields_text (entry_fields e))) (plain_some (fields_text (entry_fields e)) (plain_fields (entry_fields e))) (check_some (fields_text (entry_fields e)))
+checked_some : (fields : List Text) → Lacks 0 (checked_text fields)
+checked_some fields = lacks-append 0 (fields_text fields) (check_of (fields_text fields)) (plain_some (fields_text fields) (plain_fields fields)) (check_some (fields_text fields))
 
-lines_some : (es : List Entry) → Lacks 0 (lines es [])
+line_some : (s : Said) → Lacks 0 (said_line s)
+line_some (Page e) = checked_some (entry_fields e)
+line_some (Answer t) = checked_some (t ∷ [])
+
+lines_some : (said : List Said) → Lacks 0 (lines said [])
 lines_some [] = tt
-lines_some (e ∷ es) = lacks-append 0 (entry_line e) (10 ∷ lines es []) (line_some e) (omega arith, lines_some es)
+lines_some (s ∷ said) = lacks-append 0 (said_line s) (10 ∷ lines said []) (line_some s) (omega arith, lines_some said)
 
 address_some : (text : List ℕ) → All IsAddressByte text → Lacks 0 text
 address_some [] each = tt
@@ -123,7 +126,7 @@ front_of (x ∷ xs) (y ∷ ys) none holed = go (y == 0) refl holed.0 (front_of x
     go false is (inr lost) begins = (let yes : (y == 0) ≡ true = eq-eqb y 0 lost in cc)
 
 -- whatever a crash leaves of a journal that isn't synced, before its first zero is a front of it
-pub crash_front : (start : AddressText) (others : List AddressText) (first bytes : Text) (entries : List Entry) → IsAddress start → first ≡ first_line start others
-    → Holed (first ++ lines entries []) bytes → Begins (first ++ lines entries []) (before_zero bytes)
-crash_front start others first bytes entries is own holed =
-    front_of (first ++ lines entries []) bytes (lacks-append 0 first (lines entries []) (subst (Lacks 0) (sym own) (first_some start others is)) (lines_some entries)) holed
+pub crash_front : (start : AddressText) (others : List AddressText) (first bytes : Text) (said : List Said) → IsAddress start → first ≡ first_line start others
+    → Holed (first ++ lines said []) bytes → Begins (first ++ lines said []) (before_zero bytes)
+crash_front start others first bytes said is own holed =
+    front_of (first ++ lines said []) bytes (lacks-append 0 first (lines said []) (subst (Lacks 0) (sym own) (first_some start others is)) (lines_some said)) holed

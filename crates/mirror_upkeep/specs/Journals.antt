@@ -1,13 +1,14 @@
--- The journal of a run: its text, and which line of a text is the first that is none of a journal.
-use Rattle.std.specs.Prelude.{◌≡◌, ◌≢◌, ◌++◌, ◌+◌, ◌≤◌, ◌⊎◌, ◌==◌, ℕ, List, [], ◌∷◌, All, codes, if◌then◌else◌, length, nat_le}
+-- The journal of a run: its text, what that says, and which line of a text is the first that is none of a journal.
+use Rattle.std.specs.Prelude.{◌≡◌, ◌≢◌, ◌++◌, ◌+◌, ◌≤◌, ◌⊎◌, ◌==◌, ℕ, List, [], ◌∷◌, All, codes, if◌then◌else◌, length, map, nat_le}
 use Rattle.address.specs.Address.{AddressText}
 use Rattle.hex.specs.Hex.{encode_lower}
 use Rattle.sha2.specs.Sha256.{sha256}
 use Rattle.mirror_index.specs.Cuts.{Lacks}
-use Rattle.mirror_index.specs.Entries.{Entry, IsEntry, Text, entry_line}
-use Rattle.mirror_index.specs.Indexes.{lines}
+use Rattle.mirror_index.specs.Entries.{Entry, IsEntry, Text, entry_line, text_line}
 use Rattle.mirror_index.specs.declared.entry.TheConstants.{MAX_LINE}
 use Rattle.mirror_index.specs.declared.index.TheConstants.{MAX_ENTRIES}
+use Rattle.mirror_upkeep.specs.Latest.{IsWholeIndexOf}
+use Rattle.mirror_upkeep.specs.declared.reading.StoppedRun.{StoppedRun}
 
 -- ---- the first line
 
@@ -28,30 +29,69 @@ first_line start others = version ++ (start ++ (32 ∷ (encode_lower (sha256 (st
 abbrev pub entry_part : Entry → Text
 entry_part e = if nat_le (length (entry_line e)) MAX_LINE then entry_line e ++ 10 ∷ [] else []
 
+-- ---- the lines after it
+
+-- what a line says: a page that has its file, or an answer without one, which is a text of any bytes
+pub data Said : Type 0 where
+  Page : Entry → Said
+  Answer : Text → Said
+
+-- the line that says it
+abbrev pub said_line : Said → Text
+said_line (Page e) = entry_line e
+said_line (Answer t) = text_line t
+
+-- it may be written: a page if an index may have it, and each answer
+abbrev pub IsWritten : Said → Type 0
+IsWritten (Page e) = IsEntry e
+IsWritten (Answer t) = Unit {0}
+
+-- the lines that say this, and a text after them
+abbrev pub lines : List Said → Text → Text
+lines [] after = after
+lines (s ∷ said) after = said_line s ++ 10 ∷ lines said after
+
+-- the pages, in order
+abbrev pub pages_of : List Said → List Entry
+pages_of [] = []
+pages_of (Page e ∷ said) = e ∷ pages_of said
+pages_of (Answer t ∷ said) = pages_of said
+
+-- the answers, in order
+abbrev pub answers_of : List Said → List Text
+answers_of [] = []
+answers_of (Page e ∷ said) = answers_of said
+answers_of (Answer t ∷ said) = t ∷ answers_of said
+
 -- ---- journals
 
 -- the first text begins with the second
 abbrev pub Begins : Text → Text → Type 0
 Begins text front = (rest : Text) × (text ≡ front ++ rest)
 
--- the first line, these entries in lines, and a part of one more
-pub record IsWhole (bytes first : Text) (entries : List Entry) : Type 0 where
+-- the first line, the lines that say this, and a part of one more
+pub record IsWhole (bytes first : Text) (said : List Said) : Type 0 where
   pub tail : Text
-  pub text : bytes ≡ first ++ lines entries tail
+  pub text : bytes ≡ first ++ lines said tail
   pub cut : Lacks 10 tail
 
--- what is there of a journal of these entries: all that, or no entry and a part of the first line
-abbrev pub IsJournal : Text → Text → List Entry → Type 0
-IsJournal bytes first entries = IsWhole bytes first entries ⊎ (entries ≡ [] × Begins first bytes)
+-- what is there of a journal that says this: all that, or no line and a part of the first line
+abbrev pub IsJournal : Text → Text → List Said → Type 0
+IsJournal bytes first said = IsWhole bytes first said ⊎ (said ≡ [] × Begins first bytes)
 
--- entries that are written in a journal, and few enough
-pub record AreWritten (entries : List Entry) : Type 0 where
-  pub each : All IsEntry entries
-  pub few : length entries ≤ MAX_ENTRIES
+-- a journal may say this: each line may be written, and the pages are few enough
+pub record AreWritten (said : List Said) : Type 0 where
+  pub each : All IsWritten said
+  pub few : length (pages_of said) ≤ MAX_ENTRIES
 
--- the first entries begin with the others
-abbrev pub StartsWith : List Entry → List Entry → Type 0
-StartsWith entries read = (left : List Entry) × (entries ≡ read ++ left)
+-- the first lines begin with the others
+abbrev pub StartsWith : List Said → List Said → Type 0
+StartsWith said read = (left : List Said) × (said ≡ read ++ left)
+
+-- what a journal leaves of a run: an index of its pages, and its answers
+pub record IsRunOf (said : List Said) (run : StoppedRun) : Type 0 where
+  pub pages : IsWholeIndexOf (pages_of said) run.pages
+  pub answers : map (λ v. v.items) run.answers.items ≡ answers_of said
 
 -- what is before the first zero, which no journal has: bytes that a crash lost are zeros
 abbrev pub before_zero : Text → Text
@@ -65,17 +105,17 @@ pub record IsOther (bytes first : Text) : Type 0 where
   pub after : ¬ Begins bytes first
   pub part : ¬ Begins first bytes
 
--- this line is the first that isn't an entry's
+-- this line is the first that says neither a page that may be written nor an answer
 pub record IsFirstBad (bytes first : Text) (n : ℕ) : Type 0 where
-  pub entries : List Entry
+  pub said : List Said
   pub rest : Text
-  pub text : bytes ≡ first ++ lines entries rest
-  pub line : n ≡ length entries + 2
+  pub text : bytes ≡ first ++ lines said rest
+  pub line : n ≡ length said + 2
   pub whole : ¬ Lacks 10 rest
-  pub bad : (e : Entry) (later : Text) → IsEntry e → rest ≢ entry_line e ++ 10 ∷ later
+  pub bad : (s : Said) (later : Text) → IsWritten s → rest ≢ said_line s ++ 10 ∷ later
 
--- all lines are entries', and some entry is none that is written, or there are too many
+-- each line says a page or an answer, and some page is none that may be written, or there are too many
 pub record HasUnwritten (bytes first : Text) : Type 0 where
-  pub entries : List Entry
-  pub whole : IsJournal bytes first entries
-  pub unwritten : ¬ AreWritten entries
+  pub said : List Said
+  pub whole : IsJournal bytes first said
+  pub unwritten : ¬ AreWritten said

@@ -1,5 +1,5 @@
 -- Entries of which several may be of one address: the last of them counts.
-use Rattle.std.specs.Prelude.{◌≡◌, ◌≤◌, List, [], ◌∷◌, Option, Some, None, bytes_eq, if◌then◌else◌, length}
+use Rattle.std.specs.Prelude.{◌≡◌, ◌≤◌, List, [], ◌∷◌, All, Option, Some, None, bytes_eq, if◌then◌else◌, length}
 use Rattle.address.specs.Address.{AddressText}
 use Rattle.mirror_index.specs.Entries.{Entry, IsEntry}
 use Rattle.mirror_index.specs.Indexes.{IsIndex}
@@ -29,3 +29,8 @@ pub record IsIndexOf (entries index : List Entry) : Type 0 where
 pub record IsWholeIndexOf (entries index : List Entry) : Type 0 where
   pub good : IsIndex index
   pub each : (at : AddressText) → latest index at ≡ latest entries at
+
+-- each may be in an index, and they are few enough
+pub record ArePages (entries : List Entry) : Type 0 where
+  pub each : All IsEntry entries
+  pub few : length entries ≤ MAX_ENTRIES

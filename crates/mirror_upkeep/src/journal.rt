@@ -1,13 +1,13 @@
-//! The text of a journal: its first line, and those of the pages.
+//! The text of a journal: its first line, and those of pages and answers.
 ghost use Rattle.std.specs.Prelude.{◌≡◌, ◌++◌, ◌∷◌, ℕ, List, [], IfOk, OnOk, if◌then◌else◌, length, nat_le};
 ghost use Rattle.sha2.specs.Sha256.{sha256};
 ghost use Rattle.sha2.specs.Hashers.{Holds256};
-ghost use Rattle.mirror_index.specs.Entries.{entry_line};
+ghost use Rattle.mirror_index.specs.Entries.{entry_line, text_line};
 ghost use Rattle.mirror_index.specs.declared.entry.TheConstants.{MAX_LINE};
 ghost use Rattle.mirror_upkeep.specs.Journals.{entry_part, first_line, starts_text};
 
 use address::Address;
-use mirror_index::{Entry, MAX_LINE, entry_line};
+use mirror_index::{Entry, MAX_LINE, entry_line, text_line};
 use sha2::{Digest, Sha256};
 use std::alloc::{AllocError, Global};
 
@@ -56,4 +56,13 @@ pub fn push_entry(alloc: Global, text: &mut Vec<u8>, entry: &Entry) -> Result<()
     text.extend_from_slice(line.as_slice())?;
     text.push(b'\n')?;
     Ok(())
+}
+
+/// Adds the line of an answer without a file, which is a text of any bytes. Fails only if memory runs out.
+pub fn push_answer(alloc: Global, text: &mut Vec<u8>, answer: &[u8]) -> Result<(), AllocError>
+    ensures { OnOk result (text.new.items ≡ text.old.items ++ (text_line answer.now ++ 10 ∷ [])) }
+{
+    let mut line = text_line(alloc, answer)?;
+    line.push(b'\n')?;
+    text.extend_from_slice(line.as_slice())
 }

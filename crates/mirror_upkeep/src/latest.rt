@@ -3,8 +3,7 @@ ghost use Rattle.std.specs.Prelude.{◌≡◌, ◌++◌, ◌∷◌, ◌↔◌, [
 ghost use Rattle.std.specs.List.Sorted.{IsPermutation};
 ghost use Rattle.address.specs.Address.{AddressText};
 ghost use Rattle.mirror_index.specs.Entries.{Entry};
-ghost use Rattle.mirror_upkeep.specs.Journals.{AreWritten};
-ghost use Rattle.mirror_upkeep.specs.Latest.{IsIndexOf, IsWholeIndexOf, latest};
+ghost use Rattle.mirror_upkeep.specs.Latest.{ArePages, IsIndexOf, IsWholeIndexOf, latest};
 ghost use Rattle.mirror_upkeep.specs.inner.Taking.{IsFalling};
 
 use address::Address;
@@ -43,7 +42,7 @@ fn is_of(at: &Option<Address>, entry: &Entry) -> bool
 pub(crate) fn index_of(alloc: Global, entries: Vec<Entry>) -> Result<Made, AllocError>
     ensures index { IfOk result (λ made. IsIndexOf entries.items made.index) }
     ensures whole { IfOk result (λ made. IsTrue made.is_whole → IsWholeIndexOf entries.items made.index) }
-    ensures all { IfOk result (λ made. AreWritten entries.items → IsTrue made.is_whole) }
+    ensures all { IfOk result (λ made. ArePages entries.items → IsTrue made.is_whole) }
 {
     let mut left = entries;
     sort_falling(&mut left)?;

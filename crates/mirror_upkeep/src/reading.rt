@@ -1,19 +1,17 @@
 //! Reading a journal.
-ghost use Rattle.std.specs.Prelude.{◌≡◌, ◌++◌, ◌+◌, ◌<◌, ◌^◌, ◌∷◌, ℕ, List, [], Err, IfOk, IfSome, MatchOption, MatchResult, OnOk, Some, length, string_bytes};
+ghost use Rattle.std.specs.Prelude.{◌≡◌, ◌++◌, ◌+◌, ◌<◌, ◌^◌, ◌∷◌, ℕ, List, [], Err, IfOk, IfSome, MatchBool, MatchOption, MatchResult, OnOk, Some, length, string_bytes};
 ghost use Rattle.address.specs.Address.{AddressText, IsAddress};
 ghost use Rattle.disk_folder.specs.Disks.{Holed};
 ghost use Rattle.mirror_index.specs.Cuts.{Lacks};
 ghost use Rattle.mirror_index.specs.Entries.{Entry, IsEntry, Text, entry_line};
-ghost use Rattle.mirror_index.specs.Indexes.{lines};
-ghost use Rattle.mirror_upkeep.specs.Journals.{AreWritten, Begins, HasUnwritten, IsFirstBad, IsJournal, IsOther, StartsWith, before_zero, first_line, version};
-ghost use Rattle.mirror_upkeep.specs.Latest.{IsWholeIndexOf};
-ghost use Rattle.mirror_upkeep.specs.inner.Reading.{AreIn, IsAfterFirst, IsFaultIn, IsFaultOfFirst};
+ghost use Rattle.mirror_upkeep.specs.Journals.{Answer, AreWritten, Begins, HasUnwritten, IsFirstBad, IsJournal, IsOther, IsRunOf, Page, Said, StartsWith, before_zero, first_line, lines, version};
+ghost use Rattle.mirror_upkeep.specs.inner.Reading.{Holds, IsAdded, IsAfterFirst, IsFaultIn, IsFaultOfFirst, IsSaidIn, SaysNothing};
 ghost use Rattle.mirror_upkeep.specs.Reasons.{reason_of};
 ghost use Rattle.mirror_upkeep.specs.declared.reading.JournalFault.TheVariants.{Entry as EntryFault, Line, Memory, Starts, Version};
 
 use crate::latest::index_of;
 use memchr::memchr;
-use mirror_index::{Entry, MAX_LINE, MirrorIndex, read_line};
+use mirror_index::{Entry, MAX_LINE, MirrorIndex, read_line, read_text};
 use std::alloc::{AllocError, Global};
 
 /// Why bytes aren't the journal of a run with certain starts.
@@ -23,9 +21,9 @@ pub enum JournalFault {
     Version,
     /// It is of other starts.
     Starts,
-    /// This line is the first that isn't an entry's.
+    /// This line is the first that is neither a page's nor an answer's.
     Line(usize),
-    /// Some entry is none that an index may have, or there are more than 10,000,000.
+    /// Some page is none that an index may have, or there are more than 10,000,000.
     Entry,
     /// Memory ran out.
     Memory,
@@ -40,6 +38,42 @@ impl From<AllocError> for JournalFault {
     fn from(_error: AllocError) -> JournalFault {
         JournalFault::Memory
     }
+}
+
+/// What a run that was stopped left, by its journal.
+pub struct StoppedRun {
+    /// Its pages that have their files. Of several of one address it is the last.
+    pub pages: MirrorIndex,
+    /// Its answers without a file, in the order of their lines.
+    pub answers: Vec<Vec<u8>>,
+}
+
+// Written by hand: a user that drops one proves a call, and nothing about its fields.
+impl Drop for StoppedRun {
+    fn drop(self) {
+        let StoppedRun {
+            pages: _pages,
+            answers: _answers,
+        } = self;
+    }
+}
+
+impl StoppedRun {
+    /// Its pages and its answers.
+    pub fn into_parts(self) -> (MirrorIndex, Vec<Vec<u8>>)
+        ensures pages { result.0 ≡ self.pages }
+        ensures answers { result.1 ≡ self.answers }
+    {
+        let StoppedRun { pages, answers } = self;
+        (pages, answers)
+    }
+}
+
+// What lines say: the pages, and the answers, each in order.
+#[derive(Drop)]
+struct Lines {
+    pages: Vec<Entry>,
+    answers: Vec<Vec<u8>>,
 }
 
 /// How the first line begins.
@@ -82,46 +116,77 @@ fn short_line(alloc: Global, line: &[u8]) -> Result<Option<Entry>, AllocError>
     read_line(alloc, line)
 }
 
-// Adds an entry.
-fn push(entries: &mut Vec<Entry>, entry: Entry) -> Result<(), AllocError>
-    ensures { OnOk result (entries.new.items ≡ entries.old.items ++ entry ∷ []) }
+// Adds a page.
+fn add_page(read: &mut Lines, entry: Entry) -> Result<(), AllocError>
+    ensures { OnOk result ((said : List Said) → Holds said read.old → Holds (said ++ Page entry ∷ []) read.new) }
 {
-    entries.push(entry)?;
+    read.pages.push(entry)?;
     Ok(())
 }
 
-// The entries of whole lines. What is after the last end of a line isn't whole.
-fn entries_in(alloc: Global, text: &[u8]) -> Result<Vec<Entry>, JournalFault>
-    ensures { MatchResult result (λ entries. AreIn text.now entries.items) (IsFaultIn text.now) }
+// Adds an answer.
+fn add_answer(read: &mut Lines, answer: Vec<u8>) -> Result<(), AllocError>
+    ensures { OnOk result ((said : List Said) → Holds said read.old → Holds (said ++ Answer answer.items ∷ []) read.new) }
 {
-    let mut entries = Vec::new(alloc);
+    read.answers.push(answer)?;
+    Ok(())
+}
+
+// Adds what a line says, and says whether it did: not if it is neither a page's nor an answer's.
+fn add_line(alloc: Global, read: &mut Lines, line: &[u8]) -> Result<bool, AllocError>
+    ensures { IfOk result (λ added. MatchBool added (IsAdded read.old read.new line.now) ((read.new ≡ read.old) × SaysNothing line.now)) }
+{
+    let page = short_line(alloc, line)?;
+    if let Some(entry) = page {
+        add_page(read, entry)?;
+        return Ok(true);
+    }
+    let answer = read_text(alloc, line)?;
+    if let Some(answer) = answer {
+        add_answer(read, answer)?;
+        return Ok(true);
+    }
+    Ok(false)
+}
+
+// What whole lines say. What is after the last end of a line isn't whole.
+fn lines_in(alloc: Global, text: &[u8]) -> Result<Lines, JournalFault>
+    ensures { MatchResult result (λ read. IsSaidIn text.now read) (IsFaultIn text.now) }
+{
+    let mut read = Lines {
+        pages: Vec::new(alloc),
+        answers: Vec::new(alloc),
+    };
     let mut rest = text;
     'lines: while let Some((line, after)) = cut_line(rest) {
-        let read = short_line(alloc, line)?;
-        match read {
-            Some(entry) => push(&mut entries, entry)?,
-            None => return Err(JournalFault::Line(entries.len() + 2)),
+        let added = add_line(alloc, &mut read, line)?;
+        if !added {
+            return Err(JournalFault::Line(read.pages.len() + read.answers.len() + 2));
         }
         rest = after;
     }
-    Ok(entries)
+    Ok(read)
 }
 
-// The pages of a text as a journal of this first line has it, without a zero.
-fn read_said(alloc: Global, text: &[u8], first: &[u8]) -> Result<MirrorIndex, JournalFault>
-    ensures is { IfOk result (λ index. (entries : List Entry) × IsJournal text.now first.now entries × IsWholeIndexOf entries index) }
-    ensures back { (entries : List Entry) → AreWritten entries → Begins (first.now ++ lines entries []) text.now
-        → MatchResult result (λ index. (read : List Entry) × IsJournal text.now first.now read × StartsWith entries read × IsWholeIndexOf read index) (λ fault. fault ≡ Memory) }
+// What a text says as a journal of this first line has it, without a zero.
+fn read_said(alloc: Global, text: &[u8], first: &[u8]) -> Result<StoppedRun, JournalFault>
+    ensures is { IfOk result (λ run. (said : List Said) × IsJournal text.now first.now said × IsRunOf said run) }
+    ensures back { (said : List Said) → AreWritten said → Begins (first.now ++ lines said []) text.now
+        → MatchResult result (λ run. (read : List Said) × IsJournal text.now first.now read × StartsWith said read × IsRunOf read run) (λ fault. fault ≡ Memory) }
     ensures version { result ≡ Err Version → IsOther text.now first.now × (¬ Begins text.now version) }
     ensures starts { result ≡ Err Starts → IsOther text.now first.now × Begins text.now version }
     ensures line { (line : ℕ) → result ≡ Err (Line line) → IsFirstBad text.now first.now line }
     ensures entry { result ≡ Err EntryFault → HasUnwritten text.now first.now }
 {
     let rest = after_first(text, first)?;
-    let entries = entries_in(alloc, rest)?;
-    let made = index_of(alloc, entries)?;
+    let read = lines_in(alloc, rest)?;
+    let Lines { pages, answers } = read;
+    let made = index_of(alloc, pages)?;
     if made.is_whole {
-        Ok(made.index)
+        Ok(StoppedRun {
+            pages: made.index,
+            answers,
+        })
     } else {
         Err(JournalFault::Entry)
     }
@@ -137,17 +202,17 @@ fn before_zero(bytes: &[u8]) -> &[u8]
     }
 }
 
-/// The pages of a journal that begins with this line, by whole lines: what is after the last end of a line is of a write that wasn't
-/// finished. Nor does anything count from the first zero on, which is a byte that the disk lost. Of several entries of one address the
-/// last counts.
-pub fn read_journal(alloc: Global, bytes: &[u8], first: &[u8]) -> Result<MirrorIndex, JournalFault>
-    ensures is { IfOk result (λ index. (entries : List Entry) × IsJournal (before_zero bytes.now) first.now entries × IsWholeIndexOf entries index) }
-    ensures back { (entries : List Entry) → AreWritten entries → Begins (first.now ++ lines entries []) (before_zero bytes.now)
-        → MatchResult result (λ index. (read : List Entry) × IsJournal (before_zero bytes.now) first.now read × StartsWith entries read × IsWholeIndexOf read index) (λ fault. fault ≡ Memory) }
-    // Whatever a crash at any moment leaves of a journal, of which nothing was brought onto the disk: a front of its entries is read.
-    ensures crash { (start : AddressText) (others : List AddressText) (entries : List Entry) → IsAddress start → first.now ≡ first_line start others → AreWritten entries
-        → Holed (first.now ++ lines entries []) bytes.now
-        → MatchResult result (λ index. (read : List Entry) × StartsWith entries read × IsWholeIndexOf read index) (λ fault. fault ≡ Memory) }
+/// The pages and the answers of a journal that begins with this line, by whole lines: what is after the last end of a line is of a write
+/// that wasn't finished. Nor does anything count from the first zero on, which is a byte that the disk lost. Of several pages of one
+/// address the last counts.
+pub fn read_journal(alloc: Global, bytes: &[u8], first: &[u8]) -> Result<StoppedRun, JournalFault>
+    ensures is { IfOk result (λ run. (said : List Said) × IsJournal (before_zero bytes.now) first.now said × IsRunOf said run) }
+    ensures back { (said : List Said) → AreWritten said → Begins (first.now ++ lines said []) (before_zero bytes.now)
+        → MatchResult result (λ run. (read : List Said) × IsJournal (before_zero bytes.now) first.now read × StartsWith said read × IsRunOf read run) (λ fault. fault ≡ Memory) }
+    // Whatever a crash at any moment leaves of a journal, of which nothing was brought onto the disk: a front of its lines is read.
+    ensures crash { (start : AddressText) (others : List AddressText) (said : List Said) → IsAddress start → first.now ≡ first_line start others → AreWritten said
+        → Holed (first.now ++ lines said []) bytes.now
+        → MatchResult result (λ run. (read : List Said) × StartsWith said read × IsRunOf read run) (λ fault. fault ≡ Memory) }
     ensures version { result ≡ Err Version → IsOther (before_zero bytes.now) first.now × (¬ Begins (before_zero bytes.now) version) }
     ensures starts { result ≡ Err Starts → IsOther (before_zero bytes.now) first.now × Begins (before_zero bytes.now) version }
     ensures line { (line : ℕ) → result ≡ Err (Line line) → IsFirstBad (before_zero bytes.now) first.now line }

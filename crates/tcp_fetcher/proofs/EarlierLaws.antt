@@ -1,12 +1,14 @@
 -- What is received is the same without the digests of its bodies, and a page is answered by what an earlier run has of it.
-use Rattle.std.proofs.Common.{◌≡◌, ◌⊎◌, ◌∙◌, ◌≤◌, ℕ, suc, true, false, inl, inr, List, [], ◌∷◌, length, Option, Some, None, refl, sym, ap, subst}
-use Rattle.std.specs.Prelude.{IfOk, IfSome, OnErr, OnOk, Result, Ok, Err, option_map}
+use Rattle.std.proofs.Common.{◌≡◌, ◌⊎◌, ◌∙◌, ◌≤◌, ◌++◌, ℕ, suc, Bool, true, false, inl, inr, List, [], ◌∷◌, length, Option, Some, None, arith, refl, sym, ap, subst}
+use Rattle.std.specs.Prelude.{IfOk, IfSome, MatchOption, OnErr, OnOk, Result, Ok, Err, option_map}
 use Rattle.sha2.specs.Sha256.{sha256}
 use Rattle.address.specs.Address.{AddressText}
+use Rattle.answer_notes.specs.HopChains.{ChainValue}
 use Rattle.body_digests.specs.Digests.{HoldsDigested}
 use Rattle.body_digests.specs.declared.digesting.Digested.{Digested}
 use Rattle.fetcher.specs.declared.answer.Answer.{Answer}
 use Rattle.fetcher.specs.declared.fetcher.Ask.{Ask}
+use Rattle.fetcher.specs.declared.outcome.Outcome.{Outcome}
 use Rattle.html_links.specs.declared.rules.LinkRules.{LinkRules}
 use Rattle.http_fetcher.specs.Fetching.{Fetching, StandsForOne, with_condition}
 use Rattle.http_fetcher.specs.Meanings.{MayAnswerWithin}
@@ -24,8 +26,8 @@ use Rattle.response_reader.specs.Limits.{Limited}
 use Rattle.retries.specs.Keeping.{MayKeep, StandsForAnswer, asks_of, is_worth_answer}
 use Rattle.retries.specs.Tries.{AreTries, IsLastOf}
 use Rattle.tcp_connect.specs.Connecting.{Connecting}
-use Rattle.tcp_fetcher.specs.Answering.{AreMarked, HasMark, IsAnswered, IsAnsweredBy, IsLeft, IsOfEarlier, IsReceived, IsReceivedIfChanged, IsReadAgain, IsRecorded, IsRecordedIn, IsAnswerWith, Lasting, has_status, lasting, not_received, site_of, without_digest}
-use Rattle.tcp_fetcher.specs.TcpFetching.{TcpFetching, conditioned}
+use Rattle.tcp_fetcher.specs.Answering.{AreMarked, HasMark, IsAnswered, IsAnsweredBy, IsLeft, IsOfEarlier, IsReceived, IsReceivedIfChanged, IsReadAgain, IsRecorded, IsRecordedIn, IsRepeatedIn, IsAnswerWith, Lasting, has_status, lasting, not_received, site_of, without_digest}
+use Rattle.tcp_fetcher.specs.TcpFetching.{TcpFetching, outcome_known}
 use Rattle.tcp_fetcher.specs.PartsFetching.{MayAnswerIn, PartsSite}
 use Rattle.tcp_fetcher.specs.declared.earlier.Earlier.{Earlier}
 
@@ -33,6 +35,16 @@ use Rattle.tcp_fetcher.specs.declared.earlier.Earlier.{Earlier}
 pub if_ok_map : {A E : Type 0} (r : Result A E) (P Q : A → Type 0) → IfOk r P → ((a : A) → P a → Q a) → IfOk r Q
 if_ok_map (Ok a) P Q p follows = follows a p
 if_ok_map (Err e) P Q p follows = tt
+
+-- what follows for a value from two facts
+pub if_ok_both : {A E : Type 0} (r : Result A E) (P Q S : A → Type 0) → IfOk r P → IfOk r Q → ((a : A) → P a → Q a → S a) → IfOk r S
+if_ok_both (Ok a) P Q S p q follows = follows a p q
+if_ok_both (Err e) P Q S p q follows = tt
+
+-- what follows for a value that may be missing
+pub if_some_map : {A : Type 0} (o : Option A) (P Q : A → Type 0) → IfSome o P → ((a : A) → P a → Q a) → IfSome o Q
+if_some_map None P Q p follows = tt
+if_some_map (Some a) P Q p follows = follows a p
 
 -- what holds whatever is returned
 pub on_ok : {A E P : Type 0} (r : Result A E) → P → OnOk r P
@@ -42,6 +54,12 @@ on_ok (Err e) p = tt
 pub on_err : {A E P : Type 0} (r : Result A E) → P → OnErr r P
 on_err (Ok a) p = tt
 on_err (Err e) p = p
+
+-- what may not be asked again was asked once
+pub once_if_last : {F X : Type 0} (log : F → List Ask) (lost : F → Option LossKind) (Says : F → X → Type 0) (worth : X → Option LossKind → Bool) (ask : Ask) (most : ℕ) (old new : F) (told : X)
+    → most ≡ 0 → IsLastOf log lost Says worth ask most old new told → log new ≡ log old ++ ask ∷ []
+once_if_last log lost Says worth ask most old new told none ([], tries, few, ends) = tries.0
+once_if_last log lost Says worth ask most old new told none ((earlier ∷ more), tries, few, ends) = absurd (omega (arith, few, none))
 
 -- one condition is as good as another once there is none
 pub forgotten : (condition : Option Condition) (sends : Option Sending) → with_condition None (with_condition condition sends) ≡ with_condition None sends
@@ -125,6 +143,25 @@ module _ (fetcher : Lasting) (at : AddressText) (old new : Fetching Connecting) 
       → IsReceived fetcher at None old new answer ⊎ IsOfEarlier fetcher at earlier old new answer → IsAnsweredBy fetcher at known old new answer
   answered_by known earlier is answered = subst (λ k. IsAnsweredBy fetcher at k old new answer) (sym is) answered
 
+-- an answer of this outcome is that outcome again
+pub repeated_in : (limits : Limited) (links : LinkRules) (at : AddressText) (outcome : Outcome) (answer : Answer KeptPart) → answer.outcome ≡ outcome
+    → StandsForAnswer holds_received limits links at answer → IsRepeatedIn (links, limits) at outcome (not_received answer)
+repeated_in limits links at outcome answer same (real, (of, (holds, received)), may) = (same, refl, (real, (of, holds), may))
+
+-- what an earlier run received without a file is answered by what is known
+pub answer_repeated : {E : Type 0} (fetcher : Lasting) (at : AddressText) (single : Fetching Connecting) (outcome : Outcome) (limits : Limited) (links : LinkRules)
+    (r : Result (Option (Answer KeptPart)) E) → limits ≡ fetcher.limits → links ≡ fetcher.links → outcome_known fetcher.known at ≡ Some outcome
+    → IfOk r (λ found. IfSome found (IsRepeatedIn (links, limits) at outcome))
+    → IfOk r (λ found. IfSome found (IsAnswerWith fetcher at (IsAnswered fetcher at single single)))
+answer_repeated fetcher at single outcome limits links r same_limits same_links known again =
+    if_ok_map r _ _
+    (subst (λ (l : LinkRules). IfOk r (λ found. IfSome found (IsRepeatedIn (l, fetcher.limits) at outcome))) same_links
+    (subst (λ (l : Limited). IfOk r (λ found. IfSome found (IsRepeatedIn (links, l) at outcome))) same_limits again))
+    (λ found is. if_some_map found _ _ is (λ a repeated. (may a repeated, inr (outcome, known, repeated, refl))))
+  where
+    may : (a : Answer KeptPart) → IsRepeatedIn (site_of fetcher) at outcome a → MayAnswerIn (site_of fetcher) at a.outcome a.body
+    may a (same, left, (real, kept, says)) = (real, kept, says)
+
 -- what is answered by an entry is answered by what is known
 module _ (fetcher : Lasting) (at : AddressText) (old new : Fetching Connecting) (earlier : Earlier) (entry : Entry) where
   of_changed : (a : Answer KeptPart) → HasThis earlier.pages at entry → earlier.is_asked ≡ true
@@ -151,12 +188,12 @@ module _ (fetcher : Lasting) (at : AddressText) (old new : Fetching Connecting) 
 pub kept_known : {E : Type 0} (fetcher : Lasting) (at : AddressText) (old new : Fetching Connecting) (earlier : Earlier) (r : Result (Answer KeptPart) E) → fetcher.known ≡ Some earlier
     → IfOk r (IsAnswerWith fetcher at (λ a. IsReceived fetcher at None old new a ⊎ IsOfEarlier fetcher at earlier old new a))
     → IfOk r (IsAnswerWith fetcher at (IsAnswered fetcher at old new))
-kept_known fetcher at old new earlier r is answered = if_ok_map r _ _ answered (λ a told. (told.0, answered_by fetcher at old new a fetcher.known earlier is told.1))
+kept_known fetcher at old new earlier r is answered = if_ok_map r _ _ answered (λ a told. (told.0, inl (answered_by fetcher at old new a fetcher.known earlier is told.1)))
 
 -- the same if nothing is known
 pub kept_anew : {E : Type 0} (fetcher : Lasting) (at : AddressText) (old new : Fetching Connecting) (r : Result (Answer KeptPart) E)
     → IfOk r (IsAnswerWith fetcher at (IsReceived fetcher at None old new)) → IfOk r (IsAnswerWith fetcher at (IsAnswered fetcher at old new))
-kept_anew fetcher at old new r answered = if_ok_map r _ _ answered (λ a told. (told.0, answered_anew fetcher at old new a fetcher.known told.1))
+kept_anew fetcher at old new r answered = if_ok_map r _ _ answered (λ a told. (told.0, inl (answered_anew fetcher at old new a fetcher.known told.1)))
 
 -- that a page was noted changes nothing of its answer
 pub answered_noted : {E : Type 0} (known : Option Earlier) (inner noted : TcpFetching) (asks : List Ask) (at : AddressText) (r : Result (Answer KeptPart) E) (new : Fetching Connecting)
@@ -166,11 +203,11 @@ pub answered_noted : {E : Type 0} (known : Option Earlier) (inner noted : TcpFet
 answered_noted known inner noted asks at r new is answered =
     subst (λ (f : TcpFetching). IfOk r (IsAnswerWith (lasting (record f { known = known })) at (IsAnswered (lasting (record f { known = known })) at f.single new))) is answered
 
--- the same of a page that isn't kept
-pub passed_noted : {E : Type 0} (known : Option Earlier) (inner noted : TcpFetching) (asks : List Ask) (at : AddressText) (r : Result (Answer KeptPart) E) (new : Fetching Connecting)
-    → noted ≡ record inner { asks = asks }
-    → IfOk r (IsReceived (lasting noted) at None noted.single new)
-    → IfOk r (IsAnswered (lasting (record inner { known = known })) at inner.single new)
-passed_noted known inner noted asks at r new is received =
-    if_ok_map r _ _ (subst (λ (f : TcpFetching). IfOk r (IsReceived (lasting f) at None f.single new)) is received)
-    (λ a got. answered_anew (lasting (record inner { known = known })) at inner.single new a known got)
+-- what is answered if a chain is known, and if none is
+pub by_known : {A E : Type 0} (r : Result A E) (known : Option ChainValue) (P : A → Type 0) (Q : ChainValue → A → Type 0) (found : ChainValue) → known ≡ Some found → IfOk r (Q found)
+    → IfOk r (λ x. MatchOption known (P x) (λ f. Q f x))
+by_known r known P Q found is answered = subst (λ k. IfOk r (λ x. MatchOption k (P x) (λ f. Q f x))) (sym is) answered
+
+pub by_none : {A E : Type 0} (r : Result A E) (known : Option ChainValue) (P : A → Type 0) (Q : ChainValue → A → Type 0) → known ≡ None → IfOk r P
+    → IfOk r (λ x. MatchOption known (P x) (λ f. Q f x))
+by_none r known P Q is answered = subst (λ k. IfOk r (λ x. MatchOption k (P x) (λ f. Q f x))) (sym is) answered

@@ -28,7 +28,7 @@ use Rattle.retries.specs.Keeping.{MayKeep, StandsForAnswer, asks_of, is_worth_an
 use Rattle.retries.specs.Tries.{IsLastOf}
 use Rattle.tcp_connect.specs.Connecting.{Connecting}
 use Rattle.tcp_fetcher.specs.PartsFetching.{MayAnswerIn, PartsSite}
-use Rattle.tcp_fetcher.specs.TcpFetching.{TcpFetching, conditioned, last_loss}
+use Rattle.tcp_fetcher.specs.TcpFetching.{TcpFetching, conditioned, last_loss, outcome_known}
 use Rattle.tcp_fetcher.specs.declared.earlier.Earlier.{Earlier}
 
 -- what requests leave as it is: all but the connections, and a condition of what is sent
@@ -93,6 +93,11 @@ IsRecordedIn site at entry answer =
     × (answer.body.is_received ≡ false)
     × StandsForOne holds_part answer (λ real. MayAnswerWithin site.1 site.0 at real.outcome real.body × AreMarked entry.mark real.body.bytes)
 
+-- the answer is one that the site may give, of this outcome, and this run didn't receive it
+abbrev pub IsRepeatedIn : PartsSite → AddressText → Outcome → Answer KeptPart → Type 0
+IsRepeatedIn site at outcome answer =
+    (answer.outcome ≡ outcome) × (answer.body.is_received ≡ false) × StandsForAnswer holds_part site.1 site.0 at answer
+
 module _ (fetcher : Lasting) (at : AddressText) where
   -- the answer is one that the site may give, and of which this holds
   abbrev pub IsAnswerWith : (Answer KeptPart → Type 0) → Answer KeptPart → Type 0
@@ -134,10 +139,15 @@ module _ (fetcher : Lasting) (at : AddressText) where
       (entry : Entry) × HasThis earlier.pages at entry
       × (((earlier.is_asked ≡ true) × IsReceivedIfChanged entry old new answer) ⊎ ((earlier.is_asked ≡ false) × IsLeft entry old new answer))
 
+  -- the network isn't asked: the answer has the outcome that an earlier run received, which has no file
+  abbrev pub IsRepeated : Fetching Connecting → Fetching Connecting → Answer KeptPart → Type 0
+  IsRepeated old new answer =
+      (outcome : Outcome) × (outcome_known fetcher.known at ≡ Some outcome) × IsRepeatedIn (site_of fetcher) at outcome answer × (new ≡ old)
+
   -- what is answered, by what is known of an earlier run: if nothing is, what is received last, without a condition
   abbrev pub IsAnsweredBy : Option Earlier → Fetching Connecting → Fetching Connecting → Answer KeptPart → Type 0
   IsAnsweredBy None old new answer = IsReceived None old new answer
   IsAnsweredBy (Some earlier) old new answer = IsReceived None old new answer ⊎ IsOfEarlier earlier old new answer
 
   abbrev pub IsAnswered : Fetching Connecting → Fetching Connecting → Answer KeptPart → Type 0
-  IsAnswered old new answer = IsAnsweredBy fetcher.known old new answer
+  IsAnswered old new answer = IsAnsweredBy fetcher.known old new answer ⊎ IsRepeated old new answer

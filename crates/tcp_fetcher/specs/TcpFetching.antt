@@ -1,10 +1,13 @@
 -- What contracts see of a fetcher over TCP.
-use Rattle.std.specs.Prelude.{◌≡◌, ℕ, Bool, List, Option}
-use Rattle.address.specs.Address.{OriginText}
+use Rattle.std.specs.Prelude.{◌≡◌, ℕ, Bool, List, Option, Some, None, if◌then◌else◌}
+use Rattle.std.specs.Map.{lookup}
+use Rattle.std.specs.Str.{bytes_eq}
+use Rattle.address.specs.Address.{AddressText, OriginText}
 use Rattle.answer_notes.specs.HopChains.{ChainValue, rules_of_hops}
 use Rattle.robots_rules.specs.Access.{RuleSetValue}
 use Rattle.requests.specs.Requests.{Sending}
 use Rattle.fetcher.specs.declared.fetcher.Ask.{Ask}
+use Rattle.fetcher.specs.declared.outcome.Outcome.{Outcome}
 use Rattle.fetcher.specs.declared.fetcher.Ask.TheVariants as ask
 use Rattle.requests.specs.Conditions.{Condition}
 use Rattle.http_fetcher.specs.Fetching.{Fetching, with_condition}
@@ -44,6 +47,16 @@ abbrev pub AreReceivedRules : Retried → OriginText → Fetching Connecting →
 AreReceivedRules retries of old new rules =
     (found : ChainValue) × (rules ≡ rules_of_hops found.hops)
     × IsLastOf asks_of last_loss (λ f found. MayRule f.links of (rules_of_hops found.hops)) (λ found. is_worth_hops retries found.hops) (ask.Rules of) retries.most old new found
+
+-- what a run received of an address without a file, if this one goes on with it
+abbrev pub outcome_known : Option Earlier → AddressText → Option Outcome
+outcome_known None at = None
+outcome_known (Some earlier) at = if earlier.is_asked then None else lookup (bytes_eq at) earlier.answers.answers
+
+-- what a run received of an origin's robots file, if this one goes on with it
+abbrev pub chain_known : Option Earlier → OriginText → Option ChainValue
+chain_known None of = None
+chain_known (Some earlier) of = if earlier.is_asked then None else lookup (bytes_eq of) earlier.answers.chains
 
 -- one that asks once, with this condition
 abbrev pub conditioned : {C : Type 0} → Option Condition → Fetching C → Fetching C

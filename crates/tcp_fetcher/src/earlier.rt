@@ -1,14 +1,17 @@
-//! Pages that an earlier run kept, and notes of those that this one keeps.
+//! What earlier runs kept and received, and notes of the pages that this one keeps.
 use address::Address;
+use earlier_answers::EarlierAnswers;
 use earlier_pages::EarlierPages;
 use mirror_index::KeptHead;
 
-/// What a run knows of an earlier one's pages.
+/// What a run knows of earlier ones.
 #[derive(Drop)]
 pub struct Earlier {
     /// The pages, by the index of the folder.
     pub pages: EarlierPages,
-    /// Whether they are requested to see if they changed; if not, they aren't requested.
+    /// What a run that was stopped received without a file.
+    pub answers: EarlierAnswers,
+    /// Whether all that is requested, pages to see if they changed; if not, what is known isn't requested.
     pub is_asked: bool,
 }
 

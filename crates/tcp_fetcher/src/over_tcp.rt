@@ -245,6 +245,19 @@ impl<'a, R: Net + Wait + Clock + Eprint> OverTcp<'a, R> {
         retries::ask_robots(self.alloc, &mut self.inner, &self.retries, of)
     }
 
+    // The rules by what an earlier run received of an origin's robots file, which isn't requested. Its delay holds from then on, if that is
+    // honoured.
+    pub(crate) fn rules_again(&mut self, of: &Origin, hops: &Hops) -> Result<RuleSet, AllocError>
+        ensures rules { IfOk result (λ r. r ≡ rules_of_hops hops.now.hops) }
+        ensures asked { OnOk result (self.new ≡ record self.old { asks = self.old.asks ++ ask.Rules of.now ∷ [] }) }
+        ensures refused { OnErr result (GainedAtMost self.old.asks self.new.asks (ask.Rules of.now)) }
+        ensures same { self.new ≡ record self.old { asks = self.new.asks } }
+    {
+        self.asks.push(Ask::Rules(of.try_clone()?))?;
+        self.space_out(hops)?;
+        hops.rules(self.alloc)
+    }
+
     // Requests a page over the network that was noted, each try with this condition alone (RFC 9110, section 13.1), if there is one. Its body
     // goes to the sink's keeper while it arrives.
     pub(crate) fn ask_noted<K: Keeper>(

@@ -2,11 +2,13 @@
 ghost use Rattle.std.specs.Prelude.{◌≡◌, IfOk, IfSome, IsTrue, option_map, true};
 ghost use Rattle.part_keeper.specs.Parts.{holds_received};
 ghost use Rattle.response_reader.specs.Limits.{limited};
-ghost use Rattle.tcp_fetcher.specs.Answering.{HasMark, IsReadAgain, IsRecordedIn, has_status, not_received, without_digest};
+ghost use Rattle.tcp_fetcher.specs.Answering.{HasMark, IsReadAgain, IsRecordedIn, IsRepeatedIn, has_status, not_received, without_digest};
 
 use crate::earlier::IndexNote;
 use address::Address;
+use answer_notes::{Hops, Received};
 use body_digests::{Digested, Digesting};
+use earlier_answers::{answer_text, chain_text};
 use earlier_pages::EarlierPage;
 use early_names::EarlyRules;
 use fetcher::{Answer, Outcome};
@@ -16,7 +18,7 @@ use kept_bodies::{BodyKind, Keeper};
 use mirror_index::{KeptHead, Mark};
 use part_keeper::{KeptPart, PartCounter, PartKeeper, PartLinker, PartsDir, Standing};
 use response_answer::PageSink;
-use response_reader::{Limits, TcpWire};
+use response_reader::{Limits, SliceWire, TcpWire};
 use std::alloc::{AllocError, Global};
 use std::fs::Files;
 use std::io::Read;
@@ -42,7 +44,10 @@ where
     last: Option<[u8; 32]>,
     /// Whether what was answered last was requested over the network.
     pub(crate) is_requested: bool,
-    alloc: Global,
+    // The text of the robots file that was received last, unless it was taken.
+    chain: Option<Vec<u8>>,
+    /// Where what it answers takes memory from.
+    pub(crate) alloc: Global,
     rt: &'a R,
     kept: &'a KeptConnections<R::Stream>,
     parts: &'a PartsDir<R::File>,
@@ -62,6 +67,7 @@ where
             rules: _rules,
             last: _last,
             is_requested: _is_requested,
+            chain: _chain,
             alloc: _alloc,
             rt: _rt,
             kept: _kept,
@@ -94,6 +100,7 @@ where
             rules,
             last: None,
             is_requested: true,
+            chain: None,
             alloc,
             rt,
             kept,
@@ -106,6 +113,54 @@ where
         self.last = None;
         set(&mut self.linked, None);
         self.is_requested = true;
+    }
+
+    /// A robots file was received, of which a journal may get the text. Without memory for that it gets none.
+    pub(crate) fn note_chain(&mut self, hops: &Hops) {
+        self.chain = if is_lasting(hops) {
+            chain_text(self.alloc, hops).unwrap_or(None)
+        } else {
+            None
+        };
+    }
+
+    /// The text of the robots file that was received last, unless it was taken.
+    pub(crate) fn take_chain(&mut self) -> Option<Vec<u8>> {
+        self.chain.take()
+    }
+
+    /// The text of a page's answer, the last one, as [`crate::PartsOverTcp::answer_text`] has it.
+    pub(crate) fn answer_text(
+        &self,
+        at: &Address,
+        outcome: &Outcome,
+    ) -> Result<Option<Vec<u8>>, AllocError> {
+        if !self.is_requested || is_passing(outcome) {
+            return Ok(None);
+        }
+        answer_text(self.alloc, at, outcome)
+    }
+
+    /// The answer of this outcome again, which has no file. None if it can't be said again.
+    pub(crate) fn repeated(
+        &mut self,
+        at: &Address,
+        outcome: &Outcome,
+        links: LinkRules,
+        limits: Limits,
+    ) -> Result<Option<Answer<KeptPart>>, AllocError>
+        ensures { IfOk result (λ found. IfSome found (IsRepeatedIn (links, limited limits) at.now outcome.now)) }
+    {
+        let Some(head) = earlier_answers::head_of(self.alloc, outcome)? else {
+            return Ok(None);
+        };
+        let mut wire = SliceWire::new(head.as_slice());
+        let answer = answer_over(self.alloc, &mut wire, at, &mut self.passing, links, limits)?;
+        if answer.outcome.same(outcome) {
+            Ok(Some(not_received(answer)))
+        } else {
+            Ok(None)
+        }
     }
 
     /// Whether a page of this address is kept.
@@ -270,6 +325,31 @@ where
             digest: self.last,
             head,
         }))
+    }
+}
+
+/// The first status that says that the server failed (RFC 9110, section 15.6).
+const FIRST_SERVER_ERROR: u16 = 500;
+
+// Whether another answer is to be expected soon: the server failed, waited in vain, or has too much to do (RFC 9110, sections 15.5.9 and
+// 15.6; RFC 6585, section 4).
+fn is_passing_status(status: u16) -> bool {
+    status == 408 || status == 429 || status >= FIRST_SERVER_ERROR
+}
+
+// The same of an outcome.
+fn is_passing(outcome: &Outcome) -> bool {
+    match outcome {
+        Outcome::Leaf(status) | Outcome::Moved(status, _) => is_passing_status(*status),
+        Outcome::Page(_, _) | Outcome::Fault(_) => false,
+    }
+}
+
+// Whether no other robots file is to be expected soon.
+fn is_lasting(hops: &Hops) -> bool {
+    match hops.hops() {
+        [.., (_, Received::Whole(given))] => !is_passing_status(given.response().status),
+        _ => false,
     }
 }
 

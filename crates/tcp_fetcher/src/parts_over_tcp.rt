@@ -1,18 +1,21 @@
 //! What asks over TCP for one worker, and has the bodies kept in files while they arrive.
-ghost use Rattle.std.specs.Prelude.{◌≡◌, ◌<◌, ◌⊎◌, ◌++◌, ◌∷◌, [], None, Some, IfOk, IfSome, OnErr, OnOk, option_map};
+ghost use Rattle.std.specs.Prelude.{◌≡◌, ◌⊎◌, ◌++◌, ◌∷◌, [], None, Some, IfOk, IfSome, MatchOption, OnErr, OnOk, option_map};
 ghost use Rattle.std.specs.Arc.{arc_value};
 ghost use Rattle.fetcher.specs.Logs.{GainedAtMost};
 ghost use Rattle.fetcher.specs.declared.fetcher.Ask.TheVariants as ask;
+ghost use Rattle.answer_notes.specs.HopChains.{rules_of_hops};
+ghost use Rattle.html_links.specs.declared.rules.LinkRules.{LinkRules};
 ghost use Rattle.http_fetcher.specs.Fetching.{with_condition};
+ghost use Rattle.http_fetcher.specs.Meanings.{MayRule};
 ghost use Rattle.tcp_fetcher.specs.Answering.{IsAnswered, IsConcluded, IsLeft, IsOfEarlier, IsReceived, IsReceivedIfChanged, IsRecorded, IsAnswerWith, is_unchanged, lasting};
 ghost use Rattle.tcp_fetcher.specs.PartsFetching.{MayAnswerIn, MayRuleIn, PartsSite, parts_site};
-ghost use Rattle.tcp_fetcher.specs.TcpFetching.{AreReceivedRules, conditioned, last_loss};
+ghost use Rattle.tcp_fetcher.specs.TcpFetching.{AreReceivedRules, chain_known, conditioned, last_loss, outcome_known};
 
 use crate::earlier::{Earlier, IndexNote};
 use crate::over_tcp::OverTcp;
 use crate::page_taker::PageTaker;
 use address::{Address, Origin};
-use answer_notes::Receiving;
+use answer_notes::{Hops, Receiving};
 use body_digests::Digesting;
 use earlier_pages::EarlierPage;
 use early_names::EarlyRules;
@@ -180,6 +183,14 @@ where
         }
     }
 
+    // Requests a page that isn't kept over the network, without a condition.
+    fn ask_passing(&mut self, at: &Address) -> Result<Answer<KeptPart>, AllocError>
+        ensures received { IfOk result (IsAnswerWith (lasting self.old) at.now (IsReceived (lasting self.old) at.now None self.old.single self.new.single)) }
+        ensures lasting { lasting self.new ≡ lasting self.old }
+    {
+        self.inner.ask_noted(&mut self.taker.passing, at, None)
+    }
+
     // Answers for a page that is kept, by these pages of an earlier run.
     fn ask_known(&mut self, at: &Address, earlier: &Earlier) -> Result<Answer<KeptPart>, AllocError>
         ensures answered { IfOk result (IsAnswerWith (lasting self.old) at.now (λ a. IsReceived (lasting self.old) at.now None self.old.single self.new.single a ⊎ IsOfEarlier (lasting self.old) at.now earlier.now self.old.single self.new.single a)) }
@@ -206,6 +217,61 @@ where
         }
     }
 
+    // What an earlier run received of a page without a file, if this one goes on with it.
+    fn repeated(&mut self, at: &Address) -> Result<Option<Answer<KeptPart>>, AllocError>
+        ensures answered { IfOk result (λ found. IfSome found (IsAnswerWith (lasting self.old) at.now (IsAnswered (lasting self.old) at.now self.old.single self.new.single))) }
+        ensures fetcher { self.new ≡ self.old }
+    {
+        let Some(outcome) = known_outcome(&self.earlier, at) else {
+            return Ok(None);
+        };
+        let links = self.inner.link_rules();
+        let limits = self.inner.limits();
+        self.taker.repeated(at, outcome, links, limits)
+    }
+
+    // Answers for a page, unless an earlier run received it without a file.
+    fn ask_anew(&mut self, at: &Address) -> Result<Answer<KeptPart>, AllocError>
+        ensures answered { IfOk result (IsAnswerWith (lasting self.old) at.now (IsAnswered (lasting self.old) at.now self.old.single self.new.single)) }
+        ensures lasting { lasting self.new ≡ lasting self.old }
+    {
+        if self.taker.keeps(at) {
+            self.ask_kept(at)
+        } else {
+            self.ask_passing(at)
+        }
+    }
+
+    // Answers for a page: by what an earlier run has of it, if this one goes on with that.
+    fn ask_any(&mut self, at: &Address) -> Result<Answer<KeptPart>, AllocError>
+        ensures answered { IfOk result (IsAnswerWith (lasting self.old) at.now (IsAnswered (lasting self.old) at.now self.old.single self.new.single)) }
+        ensures lasting { lasting self.new ≡ lasting self.old }
+    {
+        match self.repeated(at)? {
+            Some(answer) => {
+                self.taker.is_requested = false;
+                Ok(answer)
+            }
+            None => self.ask_anew(at),
+        }
+    }
+
+    // The rules by what is received of an origin's robots file, which a journal may get.
+    fn rules_received(&mut self, of: &Origin) -> Result<RuleSet, AllocError>
+        ensures site { parts_site self.new ≡ parts_site self.old }
+        ensures told { IfOk result (λ r. MayRuleIn (parts_site self.old) of.now r) }
+        ensures asked { OnOk result (self.new.asks ≡ self.old.asks ++ ask.Rules of.now ∷ []) }
+        ensures refused { OnErr result (GainedAtMost self.old.asks self.new.asks (ask.Rules of.now)) }
+        ensures once { self.old.retries.most ≡ 0 → OnOk result (self.new.single.asks ≡ self.old.single.asks ++ ask.Rules of.now ∷ []) }
+        ensures tries { IfOk result (AreReceivedRules self.old.retries of.now (conditioned None self.old.single) self.new.single) }
+        ensures retries { self.new.retries ≡ self.old.retries }
+        ensures limits { self.new.limits ≡ self.old.limits }
+    {
+        let hops = self.inner.ask_hops(of)?;
+        self.taker.note_chain(&hops);
+        hops.rules(self.taker.alloc)
+    }
+
     /// What an index or a journal gets of a page and its answer, the last one, if the page can be answered by it: not if its body was coded,
     /// since its links weren't looked for.
     pub fn note(
@@ -214,6 +280,24 @@ where
         answer: &Answer<KeptPart>,
     ) -> Result<Option<IndexNote>, AllocError> {
         self.taker.note(at, answer)
+    }
+
+    /// The text that a journal gets of a page's answer, the last one, if that has no file and was received just now: of a redirect, or of a
+    /// status that isn't one of success. Of a status after which another is to be expected soon it gets none: 408, 429, or one of a server
+    /// that failed.
+    pub fn answer_text(
+        &self,
+        at: &Address,
+        answer: &Answer<KeptPart>,
+    ) -> Result<Option<Vec<u8>>, AllocError> {
+        self.taker.answer_text(at, &answer.outcome)
+    }
+
+    /// The text that a journal gets of the robots file that was received last, redirects included, unless it was taken.
+    pub fn take_chain(&mut self) -> Option<Vec<u8>>
+        ensures { self.new ≡ self.old }
+    {
+        self.taker.take_chain()
     }
 
     /// Why the last connection was lost, if the last request was over one and that was lost.
@@ -235,6 +319,27 @@ fn is_unchanged(outcome: &Outcome) -> bool
     match outcome {
         Outcome::Leaf(status) => *status == 304,
         Outcome::Page(_, _) | Outcome::Moved(_, _) | Outcome::Fault(_) => false,
+    }
+}
+
+// What an earlier run received of a page without a file, if this one goes on with it.
+fn known_outcome<'a>(earlier: &'a Option<Arc<Earlier>>, at: &Address) -> Option<&'a Outcome>
+    ensures { option_map (λ outcome. outcome.now) result ≡ outcome_known (option_map arc_value earlier.now) at.now }
+{
+    match earlier {
+        Some(earlier) if !earlier.is_asked => earlier.answers.outcome(at),
+        _ => None,
+    }
+}
+
+// What an earlier run received of an origin's robots file, if this one goes on with it.
+fn known_chain<'a>(earlier: &'a Option<Arc<Earlier>>, of: &Origin) -> Option<&'a Hops>
+    ensures value { option_map (λ hops. hops.now) result ≡ chain_known (option_map arc_value earlier.now) of.now }
+    ensures may { IfSome result (λ hops. (links : LinkRules) → MayRule links of.now (rules_of_hops hops.now.hops)) }
+{
+    match earlier {
+        Some(earlier) if !earlier.is_asked => earlier.answers.chain(of),
+        _ => None,
     }
 }
 
@@ -281,10 +386,7 @@ where
     {
         self.taker.begin();
         self.inner.note_ask(at)?;
-        if !self.taker.keeps(at) {
-            return self.inner.ask_noted(&mut self.taker.passing, at, None);
-        }
-        let answer = self.ask_kept(at);
+        let answer = self.ask_any(at);
         self.taker.write_late();
         answer
     }
@@ -294,14 +396,21 @@ where
         ensures told { IfOk result (λ r. MayRuleIn (parts_site self.old) of.now r) }
         ensures asked { OnOk result (self.new.asks ≡ self.old.asks ++ ask.Rules of.now ∷ []) }
         ensures refused { OnErr result (GainedAtMost self.old.asks self.new.asks (ask.Rules of.now)) }
-        // The network is asked once, or again if that is worth it; the rules are by what is received last. No condition of a page is sent.
-        ensures once { self.old.retries.most ≡ 0 → OnOk result (self.new.single.asks ≡ self.old.single.asks ++ ask.Rules of.now ∷ []) }
-        ensures tries { 0 < self.old.retries.most → IfOk result (AreReceivedRules self.old.retries of.now (conditioned None self.old.single) self.new.single) }
+        // The network is asked once, or again if that is worth it; the rules are by what is received last. No condition of a page is sent. If an
+        // earlier run that is gone on with received the robots file, the rules are by that, and the network isn't asked.
+        ensures once { self.old.retries.most ≡ 0 → chain_known self.old.known of.now ≡ None → OnOk result (self.new.single.asks ≡ self.old.single.asks ++ ask.Rules of.now ∷ []) }
+        ensures tries { IfOk result (λ r. MatchOption (chain_known self.old.known of.now) (AreReceivedRules self.old.retries of.now (conditioned None self.old.single) self.new.single r) (λ found. (r ≡ rules_of_hops found.hops) × (self.new.single ≡ self.old.single))) }
         ensures retries { self.new.retries ≡ self.old.retries }
         ensures limits { self.new.limits ≡ self.old.limits }
     {
         self.taker.is_requested = true;
-        self.inner.ask_robots(of)
+        match known_chain(&self.earlier, of) {
+            Some(hops) => {
+                self.taker.is_requested = false;
+                self.inner.rules_again(of, hops)
+            }
+            None => self.rules_received(of),
+        }
     }
 
     fn asks(&self) -> &[Ask] {

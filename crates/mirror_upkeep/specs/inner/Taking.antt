@@ -7,8 +7,7 @@ use Rattle.address.specs.Address.{AddressText}
 use Rattle.mirror_index.specs.Entries.{Entry, IsEntry}
 use Rattle.mirror_index.specs.Indexes.{IsIndex}
 use Rattle.mirror_index.specs.declared.index.TheConstants.{MAX_ENTRIES}
-use Rattle.mirror_upkeep.specs.Journals.{AreWritten}
-use Rattle.mirror_upkeep.specs.Latest.{latest}
+use Rattle.mirror_upkeep.specs.Latest.{ArePages, latest}
 
 -- the addresses fall, or stay as they are
 abbrev pub IsFalling : List Entry → Type 0
@@ -21,7 +20,7 @@ pub record IsTaken (done index : List Entry) (is_whole : Bool) : Type 0 where
   pub among : (at : AddressText) (e : Entry) → latest index at ≡ Some e → latest done at ≡ Some e
   pub all : (at : AddressText) (e : Entry) → length done ≤ MAX_ENTRIES → latest done at ≡ Some e → IsEntry e → latest index at ≡ Some e
   pub whole : is_whole ≡ true → (at : AddressText) → latest index at ≡ latest done at
-  pub fit : AreWritten done → is_whole ≡ true
+  pub fit : ArePages done → is_whole ≡ true
 
 -- the address of the entry that was taken last, if one was
 abbrev pub LastIs : List Entry → Option AddressText → Type 0

@@ -1,27 +1,15 @@
 -- The rules are of what the fetcher that asks once received last; if it may not be asked again, it was asked once.
-use Rattle.std.proofs.Common.{◌≡◌, ℕ, Bool, List, [], ◌∷◌, ◌++◌, Option, Ok, Err, arith}
-use Rattle.std.specs.Prelude.{Result, OnOk}
-use Rattle.run_failures.specs.declared.loss_kind.LossKind.{LossKind}
 use Rattle.response_answer.proofs.DigestLemmas.{if_ok_map}
-use Rattle.fetcher.specs.declared.fetcher.Ask.{Ask}
 use Rattle.fetcher.specs.declared.fetcher.Ask.TheVariants as ask
 use Rattle.answer_notes.specs.HopChains.{rules_of_hops}
 use Rattle.http_fetcher.specs.Fetching.{Fetching}
 use Rattle.http_fetcher.specs.Meanings.{MayRule}
 use Rattle.retries.specs.Keeping.{asks_of}
-use Rattle.retries.specs.Tries.{IsLastOf}
 use Rattle.retries.specs.Worth.{is_worth_hops}
 use Rattle.tcp_connect.specs.Connecting.{Connecting}
 use Rattle.tcp_fetcher.specs.TcpFetching.{last_loss}
+use Rattle.tcp_fetcher.proofs.EarlierLaws.{on_ok, once_if_last}
 use Rattle.tcp_fetcher.proofs.over_tcp.OverTcp.spaced_rules.Goals as goal
-
-once_if_last : {F X : Type 0} (log : F → List Ask) (lost : F → Option LossKind) (Says : F → X → Type 0) (worth : X → Option LossKind → Bool) (ask : Ask) (most : ℕ) (old new : F) (told : X) → most ≡ 0 → IsLastOf log lost Says worth ask most old new told → log new ≡ log old ++ ask ∷ []
-once_if_last log lost Says worth ask most old new told none ([], tries, few, ends) = tries.0
-once_if_last log lost Says worth ask most old new told none ((earlier ∷ more), tries, few, ends) = absurd (omega (arith, few, none))
-
-on_ok : {A E P : Type 0} (r : Result A E) → P → OnOk r P
-on_ok (Ok a) p = p
-on_ok (Err e) p = tt
 
 pub returns-clause-once : goal.returns-clause-once
 returns-clause-once g c = λ none.

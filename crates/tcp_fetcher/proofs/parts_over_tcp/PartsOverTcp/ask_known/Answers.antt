@@ -1,5 +1,5 @@
 -- The page is by an entry of what is known.
-use Rattle.std.proofs.Common.{◌≡◌, inl}
+use Rattle.std.proofs.Common.{inl}
 use Rattle.tcp_fetcher.specs.Answering.{lasting}
 use Rattle.tcp_fetcher.proofs.EarlierLaws.{if_ok_map, known_changed, known_missing}
 use Rattle.tcp_fetcher.proofs.parts_over_tcp.PartsOverTcp.ask_known.Goals as goal

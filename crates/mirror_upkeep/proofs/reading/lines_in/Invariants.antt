@@ -1,10 +1,10 @@
 -- What was read is before the rest.
 use Rattle.std.proofs.Common.{length}
-use Rattle.mirror_upkeep.specs.inner.Reading.{ReadIn}
-use Rattle.mirror_upkeep.proofs.reading.entries_in.Given as goal
+use Rattle.mirror_upkeep.specs.inner.Reading.{HasRead}
+use Rattle.mirror_upkeep.proofs.reading.lines_in.Given as goal
 
 abbrev pub invariant-lines : goal.invariant-lines
-invariant-lines l = ReadIn l.text l.entries.items l.rest
+invariant-lines l = HasRead l.text l.read l.rest
 
 abbrev pub decreases-lines : goal.decreases-lines
 decreases-lines l = length l.rest
