@@ -364,6 +364,28 @@ impl<F: Drop> IndexRun<F> {
         Ok(Usable::Run(LeftRun::nothing(self.alloc), None))
     }
 
+    // Tells a person that a run left so many pages, and answers without a file, with which this one doesn't go on.
+    fn tell_left<R: Wait>(
+        &self,
+        rt: &R,
+        failures: &SharedFailures,
+        path: &str,
+        pages: usize,
+        others: usize,
+    ) -> Result<(), AllocError> {
+        let why = format!(in self.alloc;
+            "a run that was stopped left {pages} pages and {others} answers without a file"
+        )?;
+        tell(
+            rt,
+            self.alloc,
+            failures,
+            path,
+            why.as_str(),
+            "-c goes on with it",
+        )
+    }
+
     // What a stopped run left, if this one takes anything of it, after what is to be said of it was said to a person. Its own journal is kept
     // from now on, unless another run that is at work has one there. A run that requests all anew takes no answers.
     fn begin_journal<R: Wait + Files<File = F>>(
@@ -396,16 +418,8 @@ impl<F: Drop> IndexRun<F> {
             (answers, texts)
         };
         if left.is_some() && takes_nothing(order.upkeep) {
-            let count = pages.len();
-            let why = format!(in self.alloc; "a run that was stopped left {count} pages")?;
-            tell(
-                rt,
-                self.alloc,
-                failures,
-                path.as_str(),
-                why.as_str(),
-                "-c goes on with it",
-            )?;
+            let (count, others) = (pages.len(), answers.len());
+            self.tell_left(rt, failures, path.as_str(), count, others)?;
         }
         let front = if takes_nothing(order.upkeep) {
             first.as_slice().to_vec(self.alloc)?
