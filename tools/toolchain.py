@@ -7,9 +7,6 @@ import shutil
 import sys
 import threading
 
-# How the prover takes memory: in large pages, which it keeps. Proofs then take a tenth less of the processor. `.ci/run` says the same.
-TAKES_MEMORY = {"MIMALLOC_ALLOW_LARGE_OS_PAGES": "1", "MIMALLOC_ARENA_EAGER_COMMIT": "1", "MIMALLOC_PURGE_DELAY": "-1"}
-
 
 def load():
     """Loads `rt` as it stands on the PATH; ends the script where it or the top of the repository isn't there."""
@@ -22,8 +19,6 @@ def load():
     module = importlib.util.module_from_spec(importlib.util.spec_from_loader("rt_parts", loader))
     loader.exec_module(module)
     module.rtlib.Crate.stamp = each_once(module.rtlib.Crate.stamp)
-    for name, value in TAKES_MEMORY.items():
-        os.environ.setdefault(name, value)
     return module
 
 
