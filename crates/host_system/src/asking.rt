@@ -1,8 +1,8 @@
 //! What asks the site for one worker.
-use crate::shared_failures::SharedFailures;
 use address::{Address, Origin};
 use answer_notes::{Noted, Recording};
 use fetcher::{Answer, Ask, Body, Fetcher};
+use program_io::SharedFailures;
 use record_journal::{Journaled, Pen};
 use robots_rules::RuleSet;
 use run_failures::LossKind;

@@ -3,10 +3,7 @@ ghost use Rattle.std.specs.Prelude.{◌≡◌, length};
 ghost use Rattle.address.specs.AddressOrder.{IsAscending};
 
 use crate::early_run::EarlyRun;
-use crate::index_run::IndexRun;
 use crate::part_threads::PartThreads;
-use crate::removed_files::remove_all;
-use crate::shared_failures::SharedFailures;
 use address::Address;
 use early_names::{EarlyRules, is_early};
 use kept_bodies::Body;
@@ -16,7 +13,9 @@ use local_tree::{
 };
 use mirror_upkeep::displaced;
 use part_keeper::{KeptPart, PartsDir, Standing};
+use program_io::SharedFailures;
 use record_journal::SavedFile;
+use run_index::{IndexRun, remove_all};
 use std::alloc::{AllocError, Global};
 use std::fs::Files;
 use std::io;

@@ -1,20 +1,21 @@
 //! What asks the site for one worker and has bodies kept in parts while they arrive.
 use crate::early_run::EarlyRun;
-use crate::page_notes::PageNotes;
-use crate::shared_failures::SharedFailures;
 use address::{Address, Origin};
+use earlier_runs::IndexNote;
 use early_names::{EarlyRules, is_early};
 use fetcher::{Answer, Ask, Fetcher};
 use local_tree::DiskFolder;
 use part_keeper::{KeptPart, PartsDir, Standing, part_path};
+use program_io::SharedFailures;
 use robots_rules::RuleSet;
+use run_index::PageNotes;
 use std::alloc::{AllocError, Global};
 use std::fs::Files;
 use std::net::Net;
 use std::sync::{Arc, Wait};
 use std::time::Clock;
 use streams::{Close, Lock};
-use tcp_fetcher::{IndexNote, PartsOverTcp};
+use tcp_fetcher::PartsOverTcp;
 
 /// Asks over TCP, has bodies kept in parts, of which it names those that may be named early, shows on the terminal what results,
 /// and keeps why a connection was lost.

@@ -1,7 +1,6 @@
 //! The file that takes the log of rejected links.
-use crate::output::open_file;
-use crate::shared_failures::SharedFailures;
 use live_system::RejectedLog;
+use program_io::{SharedFailures, open_file};
 use std::fs::Files;
 use std::io;
 use std::io::{Error, ErrorKind, Write};

@@ -29,7 +29,7 @@ use Rattle.tcp_connect.specs.Connecting.{Connecting}
 use Rattle.tcp_fetcher.specs.Answering.{AreMarked, HasMark, IsAnswered, IsAnsweredBy, IsLeft, IsOfEarlier, IsReceived, IsReceivedIfChanged, IsReadAgain, IsRecorded, IsRecordedIn, IsRepeatedIn, IsAnswerWith, Lasting, has_status, lasting, not_received, site_of, without_digest}
 use Rattle.tcp_fetcher.specs.TcpFetching.{TcpFetching, outcome_known}
 use Rattle.tcp_fetcher.specs.PartsFetching.{MayAnswerIn, PartsSite}
-use Rattle.tcp_fetcher.specs.declared.earlier.Earlier.{Earlier}
+use Rattle.earlier_runs.specs.declared.earlier.Earlier.{Earlier}
 
 -- what follows for a value
 pub if_ok_map : {A E : Type 0} (r : Result A E) (P Q : A → Type 0) → IfOk r P → ((a : A) → P a → Q a) → IfOk r Q

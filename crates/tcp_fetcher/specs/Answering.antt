@@ -29,7 +29,7 @@ use Rattle.retries.specs.Tries.{IsLastOf}
 use Rattle.tcp_connect.specs.Connecting.{Connecting}
 use Rattle.tcp_fetcher.specs.PartsFetching.{MayAnswerIn, PartsSite}
 use Rattle.tcp_fetcher.specs.TcpFetching.{TcpFetching, conditioned, last_loss, outcome_known}
-use Rattle.tcp_fetcher.specs.declared.earlier.Earlier.{Earlier}
+use Rattle.earlier_runs.specs.declared.earlier.Earlier.{Earlier}
 
 -- what requests leave as it is: all but the connections, and a condition of what is sent
 pub record Lasting : Type 0 where

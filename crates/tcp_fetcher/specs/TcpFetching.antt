@@ -12,7 +12,7 @@ use Rattle.fetcher.specs.declared.fetcher.Ask.TheVariants as ask
 use Rattle.requests.specs.Conditions.{Condition}
 use Rattle.http_fetcher.specs.Fetching.{Fetching, with_condition}
 use Rattle.http_fetcher.specs.Meanings.{MayRule}
-use Rattle.tcp_fetcher.specs.declared.earlier.Earlier.{Earlier}
+use Rattle.earlier_runs.specs.declared.earlier.Earlier.{Earlier}
 use Rattle.tcp_connect.specs.Connecting.{Connecting}
 use Rattle.pacing.specs.Retries.{Retried}
 use Rattle.retries.specs.Keeping.{asks_of, lost_of}

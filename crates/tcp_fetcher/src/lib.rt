@@ -4,13 +4,11 @@
 //! reported to an observer is tested in `live_tests`; `tests/check-main` and `tests/hostile` go through the rest.
 #![tactic(auto)]
 
-mod earlier;
 mod observed_tcp;
 mod over_tcp;
 mod page_taker;
 mod parts_over_tcp;
 
-pub use crate::earlier::{Earlier, IndexNote};
 pub use crate::observed_tcp::{ObservedTcp, ObservedWire};
 pub use crate::over_tcp::OverTcp;
 pub use crate::parts_over_tcp::PartsOverTcp;

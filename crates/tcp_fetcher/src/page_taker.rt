@@ -4,12 +4,12 @@ ghost use Rattle.part_keeper.specs.Parts.{holds_received};
 ghost use Rattle.response_reader.specs.Limits.{limited};
 ghost use Rattle.tcp_fetcher.specs.Answering.{HasMark, IsReadAgain, IsRecordedIn, IsRepeatedIn, has_status, not_received, without_digest};
 
-use crate::earlier::IndexNote;
 use address::Address;
 use answer_notes::{Hops, Received};
 use body_digests::{Digested, Digesting};
 use earlier_answers::{answer_text, chain_text};
 use earlier_pages::EarlierPage;
+use earlier_runs::IndexNote;
 use early_names::EarlyRules;
 use fetcher::{Answer, Outcome};
 use html_links::LinkRules;

@@ -11,13 +11,13 @@ ghost use Rattle.tcp_fetcher.specs.Answering.{IsAnswered, IsConcluded, IsLeft, I
 ghost use Rattle.tcp_fetcher.specs.PartsFetching.{MayAnswerIn, MayRuleIn, PartsSite, parts_site};
 ghost use Rattle.tcp_fetcher.specs.TcpFetching.{AreReceivedRules, chain_known, conditioned, last_loss, outcome_known};
 
-use crate::earlier::{Earlier, IndexNote};
 use crate::over_tcp::OverTcp;
 use crate::page_taker::PageTaker;
 use address::{Address, Origin};
 use answer_notes::{Hops, Receiving};
 use body_digests::Digesting;
 use earlier_pages::EarlierPage;
+use earlier_runs::{Earlier, IndexNote};
 use early_names::EarlyRules;
 use fetcher::{Answer, Ask, Fetcher, Outcome};
 use part_keeper::{KeptPart, PartKeeper, PartsDir};

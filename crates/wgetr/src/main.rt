@@ -4,14 +4,13 @@
 #![tactic(auto)]
 
 use address::Address;
-use host_system::{
-    EarlyRun, HostSystem, IndexRun, Output, PartThreads, PartsDir, RejectedFile, SharedFailures,
-    StandIns, jar_of, limit_lookups, starts_of,
-};
+use host_system::{EarlyRun, HostSystem, PartThreads, PartsDir, RejectedFile};
+use program_io::{Output, SharedFailures, StandIns, jar_of, limit_lookups, starts_of};
 use progress::{BehindLine, ProgressLine};
 use record_journal::Saving;
 use requests::Jar;
 use retriever::{arguments, refuse_cookies, refuse_starts, run_program, targets_of, with_starts};
+use run_index::IndexRun;
 use std::fs::Files;
 use std::io::{IsTerminal, Stdout, Write};
 use std::process::ExitCode;

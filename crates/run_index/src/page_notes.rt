@@ -1,22 +1,22 @@
 //! What one worker notes of what it received, for the run's journal and its index.
 use crate::index_run::{BegunRun, IndexRun};
 use crate::journal::JOURNAL;
-use crate::shared_failures::SharedFailures;
 use address::Address;
 use earlier_pages::{changed_at, shows_changes};
+use earlier_runs::IndexNote;
 use mirror_index::{Entry, Mark};
 use mirror_upkeep::{is_anothers, push_answer, push_entry};
+use program_io::SharedFailures;
 use std::alloc::{AllocError, Global};
 use std::fs::Files;
 use std::io;
 use std::io::Write;
 use std::sync::{Arc, Wait};
 use streams::Lock;
-use tcp_fetcher::IndexNote;
 
 /// What one worker notes of what it received. It shares once what the run was begun with, and keeps the room for a path and for lines: a
 /// page takes no lock for these, and mostly no memory.
-pub(crate) struct PageNotes<'a, F: Drop> {
+pub struct PageNotes<'a, F: Drop> {
     alloc: Global,
     index: &'a IndexRun<F>,
     // None if no run was begun.
@@ -84,7 +84,7 @@ fn entry_of(note: IndexNote, name: String, mark: Mark) -> Entry {
 
 impl<'a, F: Drop> PageNotes<'a, F> {
     /// What a worker of this run notes, which has begun. Takes no memory.
-    pub(crate) fn new<R: Wait>(rt: &R, alloc: Global, index: &'a IndexRun<F>) -> PageNotes<'a, F> {
+    pub fn new<R: Wait>(rt: &R, alloc: Global, index: &'a IndexRun<F>) -> PageNotes<'a, F> {
         PageNotes {
             alloc,
             index,
@@ -95,7 +95,7 @@ impl<'a, F: Drop> PageNotes<'a, F> {
     }
 
     /// Whether the page of an address may have this name early: not if an earlier run gave it to another page, whose file may be read yet.
-    pub(crate) fn may_name(&self, at: &Address, name: &str) -> bool {
+    pub fn may_name(&self, at: &Address, name: &str) -> bool {
         match &self.begun {
             Some(begun) => {
                 let entries = begun.earlier.pages.index().entries();
@@ -141,7 +141,7 @@ impl<'a, F: Drop> PageNotes<'a, F> {
 
     /// Notes what was received without a file, by its text; `own` is the run's own directory, or empty if it has none yet. What can't be
     /// noted is requested by the next run, too.
-    pub(crate) fn note_answer<R: Wait + Files<File = F>>(
+    pub fn note_answer<R: Wait + Files<File = F>>(
         &mut self,
         rt: &R,
         failures: &SharedFailures,
@@ -189,7 +189,7 @@ impl<'a, F: Drop> PageNotes<'a, F> {
 
     /// Notes a page that has this name early, if it has one, for the journal and for the index; `own` is the run's own directory. A page
     /// that can't be noted is requested by the next run, too.
-    pub(crate) fn note<R: Wait + Files<File = F>>(
+    pub fn note<R: Wait + Files<File = F>>(
         &mut self,
         rt: &R,
         failures: &SharedFailures,

@@ -18,7 +18,7 @@ pub enum Output<W: Write + Drop, F: Write + Drop> {
 }
 
 /// The file at a path, which keeps what it has or is begun afresh; it is made if there is none.
-pub(crate) fn open_file<D: Files>(disk: &D, path: &str, appends: bool) -> io::Result<D::File> {
+pub fn open_file<D: Files>(disk: &D, path: &str, appends: bool) -> io::Result<D::File> {
     File::options()
         .write(true)
         .append(appends)

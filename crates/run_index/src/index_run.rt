@@ -1,17 +1,17 @@
 //! What earlier runs left in the folder, by the index and the journal that are there, and what this one leaves.
 ghost use Rattle.std.specs.Prelude.{◌≡◌, ◌||◌, Err, length, not, true};
 ghost use Rattle.address.specs.AddressOrder.{IsAscending};
-ghost use Rattle.host_system.specs.declared.index_run.BeginFault.TheVariants.{Unfit};
+ghost use Rattle.run_index.specs.declared.index_run.BeginFault.TheVariants.{Unfit};
 
 use crate::index_end::IndexEnd;
 use crate::index_file::{INDEX, IndexSight, index_of, own_path, sight_of, tell};
 use crate::index_starts::says_starts;
 use crate::journal::{JOURNAL, LeftJournal, LeftRun, SharedJournal, left_at, text_of};
 use crate::removed_files::remove_all;
-use crate::shared_failures::SharedFailures;
 use address::Address;
 use earlier_answers::EarlierAnswers;
 use earlier_pages::EarlierPages;
+use earlier_runs::Earlier;
 use fetcher::{FaultClass, Outcome};
 use harvest::Harvest;
 use local_names::ORIGINAL;
@@ -21,6 +21,7 @@ use mirror_upkeep::{
 };
 use options::{Order, Upkeep};
 use part_keeper::KeptPart;
+use program_io::SharedFailures;
 use run_journal::Journal;
 use std::alloc::{AllocError, Global};
 use std::fs::Files;
@@ -28,11 +29,10 @@ use std::io::Write;
 use std::sync::{Arc, Mutex, Wait};
 use std::{io, mem};
 use streams::{Close, Lock};
-use tcp_fetcher::Earlier;
 
 /// Why a run isn't begun.
 #[derive(Clone, Copy)]
-pub(crate) enum BeginFault {
+pub enum BeginFault {
     /// It is to go on from what can't be gone on with.
     Unfit,
     /// Memory ran out.
@@ -41,7 +41,7 @@ pub(crate) enum BeginFault {
 
 impl From<AllocError> for BeginFault {
     ghost use Rattle.std.specs.Prelude.{◌≡◌};
-    ghost use Rattle.host_system.specs.declared.index_run.BeginFault.TheVariants.{Memory};
+    ghost use Rattle.run_index.specs.declared.index_run.BeginFault.TheVariants.{Memory};
 
     ghost from_gives = { λ e fault. fault ≡ Memory };
 
@@ -498,7 +498,7 @@ impl<F: Drop> IndexRun<F> {
     /// goes on with it or keeps an index, and of the index, if it keeps one, are requested only to see if they changed, or not at all, as
     /// the order says, if their files are as they were. If the index can't be used a line for a person says so. What can't be gone on with
     /// is a fault only if the order goes on with it.
-    pub(crate) fn begin<R: Wait + Files<File = F>>(
+    pub fn begin<R: Wait + Files<File = F>>(
         &self,
         rt: &R,
         failures: &SharedFailures,
@@ -553,7 +553,7 @@ impl<F: Drop> IndexRun<F> {
 
     /// What is known of earlier runs' pages, once a run began that takes of it. Without it no body is digested, which would cost a third of a
     /// run: its journal says when files were changed last.
-    pub(crate) fn earlier<R: Wait>(&self, rt: &R) -> Option<Arc<Earlier>> {
+    pub fn earlier<R: Wait>(&self, rt: &R) -> Option<Arc<Earlier>> {
         let begun = shared(&mut self.begun.lock(rt))?;
         if takes_nothing(begun.upkeep) {
             return None;
@@ -596,7 +596,7 @@ impl<F: Drop> IndexRun<F> {
 
     /// Pages, whose addresses are in order, are to be put under these names: files of earlier runs' pages give way, if any are known, and
     /// the bodies that were kept of pages whose files have others from now on.
-    pub(crate) fn make_way<R: Wait + Files>(
+    pub fn make_way<R: Wait + Files>(
         &self,
         rt: &R,
         failures: &SharedFailures,
@@ -633,7 +633,7 @@ impl<F: Drop> IndexRun<F> {
 
     /// These pages, whose addresses are in order, were put under these names: all of them, or some couldn't be put. If there is no memory to
     /// know, no index is written.
-    pub(crate) fn note_put<R: Wait>(
+    pub fn note_put<R: Wait>(
         &self,
         rt: &R,
         names: &[String],
@@ -659,7 +659,7 @@ impl<F: Drop> IndexRun<F> {
     }
 
     /// This is what was retrieved, which says whether what isn't in it is gone, and whether a connection failed.
-    pub(crate) fn note_harvest<R: Wait, B: Drop>(&self, rt: &R, harvest: &Harvest<B>) {
+    pub fn note_harvest<R: Wait, B: Drop>(&self, rt: &R, harvest: &Harvest<B>) {
         let Some(begun) = shared(&mut self.begun.lock(rt)) else {
             return;
         };
@@ -729,7 +729,7 @@ impl<F: Drop> IndexRun<F> {
     /// The run has ended, and with all that was to be retrieved if that is said. If its files were put the index is written, if one is kept,
     /// also of those that couldn't be: their entries are no file's, so the next run requests them. `own` is the run's own directory. After all
     /// was retrieved the journal is removed, unless a file or an answer is missing that no index has. Failures are kept for a person.
-    pub(crate) fn end<R: Wait + Files<File = F>>(
+    pub fn end<R: Wait + Files<File = F>>(
         &self,
         rt: &R,
         failures: &SharedFailures,

@@ -1,8 +1,8 @@
 //! Pages of earlier runs that are gone: their files are removed, unless they aren't as they were kept.
 use crate::page_files::{is_as_kept, is_there};
 use crate::removed_files::remove_all;
-use crate::shared_failures::SharedFailures;
 use mirror_index::Entry;
+use program_io::SharedFailures;
 use std::alloc::{AllocError, Global};
 use std::fs::Files;
 use std::sync::Wait;

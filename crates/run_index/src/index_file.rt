@@ -3,9 +3,9 @@ ghost use Rattle.std.specs.Prelude.{◌≡◌, ◌++◌, ◌∷◌, IfOk, string
 
 use crate::journal::is_nothing;
 use crate::page_files::is_any_there;
-use crate::shared_failures::SharedFailures;
 use earlier_pages::changed_at;
 use mirror_index::{IndexFault, MAX_INDEX, MirrorIndex, read_index, write_index};
+use program_io::SharedFailures;
 use std::alloc::{AllocError, Global};
 use std::fs::{File, Files};
 use std::io;

@@ -1,6 +1,6 @@
 //! Files of earlier runs that are removed.
 use crate::index_file::own_path;
-use crate::shared_failures::SharedFailures;
+use program_io::SharedFailures;
 use std::alloc::Global;
 use std::fs::Files;
 use std::io;
@@ -67,7 +67,7 @@ fn remove_name<R: Files>(rt: &R, alloc: Global, folder: &str, name: &str) -> io:
 }
 
 /// Removes the files of these names below a folder. What isn't there stays so, and each other failure is kept for a person.
-pub(crate) fn remove_all<R: Files + Wait>(
+pub fn remove_all<R: Files + Wait>(
     rt: &R,
     alloc: Global,
     failures: &SharedFailures,

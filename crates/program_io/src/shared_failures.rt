@@ -63,21 +63,21 @@ impl SharedFailures {
         }
     }
 
-    // The file of this name couldn't be written.
-    pub(crate) fn fail<R: Wait>(&self, rt: &R, name: &str, error: &Error) {
+    /// The file of this name couldn't be written. If there is no memory to keep why, it isn't kept.
+    pub fn fail<R: Wait>(&self, rt: &R, name: &str, error: &Error) {
         let file = FileFault::new(self.alloc, name, error);
         fail(&mut self.kept.lock(rt), file);
     }
 
-    // A connection was lost, which was to request this address.
-    pub(crate) fn lose<R: Wait>(&self, rt: &R, kind: LossKind, at: Result<Address, AllocError>) {
+    /// A connection was lost, which was to request this address. If there is no memory to count it, it isn't counted.
+    pub fn lose<R: Wait>(&self, rt: &R, kind: LossKind, at: Result<Address, AllocError>) {
         if let Ok(at) = at {
             lose(&mut self.kept.lock(rt), kind, at);
         }
     }
 
-    // This is to be reported to a person, too.
-    pub(crate) fn say<R: Wait>(&self, rt: &R, text: &str) {
+    /// This is to be reported to a person, too: whole lines. If there is no memory to keep them, they aren't kept.
+    pub fn say<R: Wait>(&self, rt: &R, text: &str) {
         say(&mut self.said.lock(rt), text);
     }
 
