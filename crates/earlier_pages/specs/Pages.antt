@@ -19,7 +19,7 @@ abbrev pub telling_tag : Option Text → Option Text
 telling_tag None = None
 telling_tag (Some tag) = if bytes_eq tag (codes "*") then None else Some tag
 
--- the condition with which a page is requested that has this entry, if its server said by what one sees whether it changed
+-- the condition with which a page is requested that has this entry, if its server sent an `ETag` other than `*`, or a `Last-Modified`
 abbrev pub condition_by : Entry → Option Condition
 condition_by e = condition_of e.address (telling_tag e.head.etag) e.head.last_modified
 

@@ -29,8 +29,8 @@ abbrev pub retry_after_seconds : Option ℕ → Received → Option ℕ
 retry_after_seconds now (Whole response) = option_and_then (seconds_after now) response.head.retry_after
 retry_after_seconds now (Fault kind) = None
 
--- The nanoseconds before one more try: those of the seconds that were said, or else those of one second, and of a second more for each
--- try that was made again; no more than the longest pause
+-- The nanoseconds before the next try: those of the seconds that `Retry-After` said, or else of 1, 2, 3 and so on; never more than the
+-- longest pause
 abbrev pub pause_of : Retried → ℕ → Option ℕ → ℕ
 pause_of retries made seconds = min (unwrap_or seconds (made + 1) * 1_000_000_000) retries.wait
 

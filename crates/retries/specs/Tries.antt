@@ -20,8 +20,8 @@ module _ {F X : Type 0} (log : F → List Ask) (lost : F → Option LossKind) (S
   abbrev pub TriesSoFar : ℕ → F → F → X → Type 0
   TriesSoFar made old new received = (earlier : List (X × F)) × AreTries old earlier new received × (length earlier ≡ made)
 
-  -- it was asked once and at most so often again, and received this last: that is worth no other try, by the reason that it has now, or there
-  -- is none left
+  -- it was asked once and at most so often again, and received this last, which is not worth another try, by the reason that it has now; or
+  -- all repeats are used up
   abbrev pub IsLastOf : ℕ → F → F → X → Type 0
   IsLastOf most old new received =
       (earlier : List (X × F)) × AreTries old earlier new received × (length earlier ≤ most)

@@ -13,12 +13,13 @@ use Rattle.answer_notes.specs.declared.received.Received.{Received}
 use Rattle.answer_notes.specs.declared.received.Received.TheVariants.{Whole, Fault}
 use Rattle.pacing.specs.Retries.{Retried}
 
--- the status says that it may be another later, or is one of those that were named
+-- the server may answer otherwise later: 429, 503, 504, or a status that the words name (`--retry-on-http-error`)
 abbrev pub is_worth_status : Retried → ℕ → Bool
 is_worth_status retries status =
     status == 429 || (status == 503 || (status == 504 || list_any (λ s. nat_eq s status) retries.statuses))
 
--- a connection that wasn't made: it timed out or broke; or it was refused, or the host is unknown, and that is to be tried again
+-- a connection that timed out, broke or failed otherwise; if the words say so, one to a server that refused it or couldn't be reached, or to
+-- an unknown host; none if this machine was short of a descriptor or a port, or no reason is known
 abbrev pub is_worth_loss : Retried → Option LossKind → Bool
 is_worth_loss retries None = false
 is_worth_loss retries (Some loss.TimedOut) = true
