@@ -4,6 +4,7 @@ use address::{Address, Origin};
 use earlier_runs::IndexNote;
 use early_names::{EarlyRules, is_early};
 use fetcher::{Answer, Ask, Fetcher};
+use kept_bodies::BodyKind;
 use local_tree::DiskFolder;
 use part_keeper::{KeptPart, PartsDir, Standing, part_path};
 use program_io::SharedFailures;
@@ -65,8 +66,48 @@ where
     ghost use Rattle.std.specs.Prelude.{◌≡◌, IfSome};
     ghost use Rattle.host_system.specs.EarlyParts.{HasWhole, NamedIfWhole};
 
-    // The name that a part may have early, which no other page has: it is claimed.
-    fn claim(&self, at: &Address, part: &KeptPart) -> Option<String>
+    // Whether a page gets this name early, whatever its body is.
+    fn is_lone(&self, at: &Address, name: &str) -> bool {
+        let Some(rules) = &self.rules else {
+            return false;
+        };
+        if rules.has_endings || !rules.keeps(at) || !is_early(name) {
+            return false;
+        }
+        match rules.name_of(self.alloc, BodyKind::Other, at) {
+            Ok(lone) => lone.as_str() == name,
+            Err(_) => false,
+        }
+    }
+
+    // Whether each directory of a name is there, and is no link.
+    fn leads_to(&mut self, name: &str) -> bool
+        ensures { self.new.inner ≡ self.old.inner }
+    {
+        self.have_folder();
+        match &mut self.folder {
+            Some(folder) => folder.leads_to(name),
+            None => false,
+        }
+    }
+
+    // The name that an earlier run gave a page, if the page gets it early, so that its file may stay there: it is claimed.
+    fn stays_at(&mut self, at: &Address) -> Option<String>
+        ensures { self.new.inner ≡ self.old.inner }
+    {
+        let name = self.notes.name_before(at)?;
+        if !self.is_lone(at, name.as_str()) || !self.leads_to(name.as_str()) {
+            return None;
+        }
+        if self.early.claim(self.rt, name.as_str()) {
+            Some(name)
+        } else {
+            None
+        }
+    }
+
+    // The name that a part may have early, which no other page has: it is claimed, or this one was.
+    fn claim(&self, at: &Address, part: &KeptPart, claimed: &Option<String>) -> Option<String>
         ensures { IfSome result (λ name. HasWhole part.now) }
     {
         let Some(rules) = &self.rules else {
@@ -78,6 +119,9 @@ where
         let Ok(name) = rules.name_of(self.alloc, part.kind, at) else {
             return None;
         };
+        if claimed.as_deref() == Some(name.as_str()) {
+            return Some(name);
+        }
         if !is_early(name.as_str()) || !self.notes.may_name(at, name.as_str()) {
             return None;
         }
@@ -94,6 +138,15 @@ where
             return None;
         };
         DiskFolder::new(self.rt, self.alloc, path.as_str()).ok()
+    }
+
+    // Has the worker have a folder, if there is memory for it.
+    fn have_folder(&mut self)
+        ensures { self.new.inner ≡ self.old.inner }
+    {
+        if self.folder.is_none() {
+            self.folder = self.new_folder();
+        }
     }
 
     // Has the worker know the run's own directory, if that was made.
@@ -113,9 +166,7 @@ where
         ensures { self.new.inner ≡ self.old.inner }
     {
         self.find_own();
-        if self.folder.is_none() {
-            self.folder = self.new_folder();
-        }
+        self.have_folder();
         !self.own.is_empty() && self.folder.is_some()
     }
 
@@ -143,15 +194,38 @@ where
         }
     }
 
-    // A page's part, which has its name from then on if nothing is in its way, and what was noted of the page.
-    fn named(&mut self, at: &Address, part: KeptPart, note: Option<IndexNote>) -> KeptPart
+    // Notes a page whose file stays under this name. Without memory to know where the journal is it has no line there.
+    fn note_stayed(&mut self, note: Option<IndexNote>, name: Option<String>)
+        ensures { self.new.inner ≡ self.old.inner }
+    {
+        self.find_own();
+        if self.own.is_empty() {
+            self.note_kept(note, None);
+        } else {
+            self.note_kept(note, name);
+        }
+    }
+
+    // A page's part, which has its name from then on if nothing is in its way, or stays under the one that was claimed, and what was noted of
+    // the page.
+    fn named(
+        &mut self,
+        at: &Address,
+        part: KeptPart,
+        note: Option<IndexNote>,
+        claimed: Option<String>,
+    ) -> KeptPart
         ensures kind { result.kind ≡ part.kind }
         ensures len { result.len ≡ part.len }
         ensures received { result.is_received ≡ part.is_received }
         ensures whole { NamedIfWhole part result }
         ensures inner { self.new.inner ≡ self.old.inner }
     {
-        let Some(name) = self.claim(at, &part) else {
+        if part.standing == Standing::Named {
+            self.note_stayed(note, claimed);
+            return part;
+        }
+        let Some(name) = self.claim(at, &part, &claimed) else {
             self.note_kept(note, None);
             return part;
         };
@@ -235,12 +309,14 @@ where
     ghost log = { λ f. f.inner.asks };
 
     fn ask(&mut self, at: &Address) -> Result<Answer<KeptPart>, AllocError> {
+        let claimed = self.stays_at(at);
+        self.inner.let_stay(claimed.is_some());
         let answer = self.inner.ask(at)?;
         self.note_page(at);
         let note = self.note_of(at, &answer);
         self.note_answer(at, &answer);
         let Answer { outcome, body } = answer;
-        let body = self.named(at, body, note);
+        let body = self.named(at, body, note, claimed);
         Ok(Answer { outcome, body })
     }
 

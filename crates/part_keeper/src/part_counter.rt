@@ -26,12 +26,14 @@ impl PartCounter {
         }
     }
 
-    // The body of a worker's part that is there already.
-    pub(crate) fn of_part(worker: u32, number: u32) -> PartCounter {
+    // The body of a worker's part that is there already, in this way.
+    pub(crate) fn of_part(worker: u32, number: u32, standing: Standing) -> PartCounter
+        ensures { result.standing ≡ standing }
+    {
         PartCounter {
             worker,
             number,
-            standing: Standing::Whole,
+            standing,
             len: 0,
         }
     }

@@ -105,6 +105,18 @@ impl<'a, F: Drop> PageNotes<'a, F> {
         }
     }
 
+    /// The name that an earlier run gave the page of an address, if it gave it to no other page. None, too, if there is no memory for it.
+    pub fn name_before(&self, at: &Address) -> Option<String> {
+        let Some(begun) = &self.begun else {
+            return None;
+        };
+        let entry = begun.earlier.pages.index().entry(at)?;
+        if !self.may_name(at, entry.name()) {
+            return None;
+        }
+        String::from_str(self.alloc, entry.name()).ok()
+    }
+
     // Adds the lines to the journal that it hasn't yet.
     fn add_lines<R: Wait + Files<File = F>>(&mut self, rt: &R, own: &str) -> io::Result<()>
     where

@@ -1,6 +1,7 @@
 //! What takes the pages of one worker: it has their bodies kept in parts, and reads again those that an earlier run kept.
-ghost use Rattle.std.specs.Prelude.{◌≡◌, IfOk, IfSome, IsTrue, option_map, true};
+ghost use Rattle.std.specs.Prelude.{◌≡◌, IfOk, IfSome, IsTrue, Some, option_map, true};
 ghost use Rattle.part_keeper.specs.Parts.{holds_received};
+ghost use Rattle.part_keeper.specs.declared.part.Standing.TheVariants.{Named};
 ghost use Rattle.response_reader.specs.Limits.{limited};
 ghost use Rattle.tcp_fetcher.specs.Answering.{HasMark, IsReadAgain, IsRecordedIn, IsRepeatedIn, has_status, not_received, without_digest};
 
@@ -37,7 +38,9 @@ where
     /// Takes pages that aren't kept.
     pub(crate) passing: PageSink<PartCounter>,
     linker: PartLinker<'a, R>,
-    // What took the last page, if its part is a link to the file that it was read from.
+    /// Whether a page may stay in the file that an earlier run gave its name.
+    pub(crate) may_stay: bool,
+    // What took the last page, if its part is the file that it was read from, or a link to it.
     linked: Option<PageSink<Digesting<PartCounter>>>,
     rules: Option<Arc<EarlyRules>>,
     // The SHA-256 of the body that was kept last, if digests are computed and the last page has one.
@@ -63,6 +66,7 @@ where
             sink,
             passing,
             linker: _linker,
+            may_stay: _may_stay,
             linked,
             rules: _rules,
             last: _last,
@@ -96,6 +100,7 @@ where
             sink: PageSink::new(alloc, keeper),
             passing: PageSink::new(alloc, PartCounter::new()),
             linker: PartLinker::new(rt, alloc, parts),
+            may_stay: false,
             linked: None,
             rules,
             last: None,
@@ -193,10 +198,17 @@ where
         }
     }
 
-    // A link to the file of a page's own name, if the page has a digest and the disk has such links: a file whose time counts has to keep it.
-    fn link_to(&mut self, page: &EarlierPage<'_, R::File>) -> Option<PartCounter> {
+    // What counts the bytes of the file of a page's own name, if its part is that file, which may stay, or a link to it. There is a link only
+    // if the page has a digest and the disk has such links: a file whose time counts has to keep it.
+    fn part_of(&mut self, page: &EarlierPage<'_, R::File>) -> Option<PartCounter>
+        ensures { IfSome result (λ part. part.standing ≡ Named → self.old.may_stay ≡ true) }
+    {
+        let path = page.own_path()?;
+        if self.may_stay {
+            return self.linker.stay(path, page.file());
+        }
         match page.entry().mark() {
-            Mark::Digest(_) => self.linker.link(page.own_path()?, page.file()),
+            Mark::Digest(_) => self.linker.link(path, page.file()),
             Mark::Changed(_) => None,
         }
     }
@@ -211,7 +223,23 @@ where
         }
     }
 
-    // What is read of a page's file into a sink of its own, whose part is a link to the file.
+    // What this sink read of a page's file, if it did and the file is in its place.
+    fn in_place(
+        &mut self,
+        sink: PageSink<Digesting<PartCounter>>,
+        read: Option<Answer<Digested<KeptPart>>>,
+    ) -> Option<Answer<Digested<KeptPart>>>
+        ensures { IfSome result (λ answer. read ≡ Some answer) }
+    {
+        if read.is_none() || !self.linker.is_in_place() {
+            drop(sink);
+            return None;
+        }
+        set(&mut self.linked, Some(sink));
+        read
+    }
+
+    // What is read of a page's file into a sink of its own, whose part is the file, or a link to it.
     fn read_linked(
         &mut self,
         part: PartCounter,
@@ -224,10 +252,7 @@ where
     {
         let mut sink = PageSink::new(self.alloc, Digesting::new(part, true));
         match read_into(self.alloc, page, at, &mut sink, links, limits) {
-            Ok(read) => {
-                set(&mut self.linked, Some(sink));
-                Ok(read)
-            }
+            Ok(read) => Ok(self.in_place(sink, read)),
             Err(error) => {
                 drop(sink);
                 Err(error)
@@ -235,7 +260,7 @@ where
         }
     }
 
-    // What is read of a page's file. Its part is a link to the file if there can be one, else a copy.
+    // What is read of a page's file. Its part is the file, or a link to it, if that can be, else a copy.
     fn read_file(
         &mut self,
         at: &Address,
@@ -245,7 +270,7 @@ where
     ) -> Result<Option<Answer<Digested<KeptPart>>>, AllocError>
         ensures { IfOk result (λ found. IfSome found (IsReadAgain holds_received (limited limits) links at.now page.entry.entry)) }
     {
-        match self.link_to(&page) {
+        match self.part_of(&page) {
             Some(part) => self.read_linked(part, at, page, links, limits),
             None => read_into(self.alloc, page, at, &mut self.sink, links, limits),
         }

@@ -101,6 +101,13 @@ where
         }
     }
 
+    /// Says whether a page that is asked for from now on may stay in the file that an earlier run gave its name: it is to have that name.
+    pub fn let_stay(&mut self, may_stay: bool)
+        ensures { self.new ≡ self.old }
+    {
+        self.taker.may_stay = may_stay;
+    }
+
     // Requests a page over the network that was noted, with this condition alone, if there is one.
     fn ask_noted(
         &mut self,

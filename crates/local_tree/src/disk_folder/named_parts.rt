@@ -1,7 +1,7 @@
 //! Bodies that a keeper has put on the disk, and that a folder gives their names.
 use super::DiskFolder;
 use super::change_lanes::FileToChange;
-use super::places::{find_path, find_place, move_file};
+use super::places::{find_dirs_of, find_path, find_place, move_file};
 use crate::body_change::BodyChange;
 use crate::folder::FolderFault;
 use crate::shelf::{HasKind, Shelf};
@@ -76,6 +76,20 @@ where
     {
         let dir = String::from_str(self.alloc, self.parts.as_str())?;
         self.move_part(dir.as_str(), name, part)
+    }
+
+    /// Whether each directory of a name is there, and is no link. Makes nothing.
+    pub fn leads_to(&mut self, name: &str) -> bool
+        ensures { self.new ≡ self.old }
+    {
+        let found = find_dirs_of(
+            self.rt,
+            self.alloc,
+            self.prefix.as_str(),
+            &mut self.known,
+            name,
+        );
+        found.is_ok()
     }
 
     /// Gives a whole part below this directory a name while a run goes on. Whether it has it from then on.

@@ -77,6 +77,44 @@ pub(crate) fn make_dir<R: Files>(rt: &R, path: &str) -> io::Result<bool> {
     }
 }
 
+// Refuses these directories below a folder, unless each is there and is one; the last is known from then on.
+fn find_dirs<R: Files>(
+    rt: &R,
+    alloc: Global,
+    folder: &str,
+    known: &mut Known,
+    dirs: &str,
+) -> io::Result<()> {
+    if known.is(dirs) {
+        return Ok(());
+    }
+    let mut path = String::from_str(alloc, folder)?;
+    for segment in dirs.split('/') {
+        push_name(&mut path, segment)?;
+        look_for_dir(rt, path.as_str())?;
+    }
+    known.forget();
+    known.dirs.push_str(dirs)?;
+    Ok(())
+}
+
+/// Refuses a name below a folder, unless each of its directories is there and is one. Makes nothing.
+pub(crate) fn find_dirs_of<R: Files>(
+    rt: &R,
+    alloc: Global,
+    folder: &str,
+    known: &mut Known,
+    name: &str,
+) -> io::Result<()> {
+    if !is_local_name(name) {
+        return Err(Error::from(ErrorKind::InvalidInput));
+    }
+    match name.rsplit_once('/') {
+        Some((dirs, _)) => find_dirs(rt, alloc, folder, known, dirs),
+        None => Ok(()),
+    }
+}
+
 // Makes these directories below a path, from the top down; it leads to the last from then on. Whether that was made here.
 fn descend_all<R: Files>(rt: &R, path: &mut String, dirs: &str) -> io::Result<bool> {
     let mut is_new = false;
