@@ -2,7 +2,7 @@
 use address::Address;
 use earlier_answers::EarlierAnswers;
 use earlier_pages::EarlierPages;
-use mirror_index::KeptHead;
+use mirror_index::{KeptHead, Mark};
 
 /// What a run knows of earlier ones.
 #[derive(Drop)]
@@ -13,6 +13,8 @@ pub struct Earlier {
     pub answers: EarlierAnswers,
     /// Whether all that is requested, pages to see if they changed; if not, what is known isn't requested.
     pub is_asked: bool,
+    /// Whether a page that is read again needs a digest, whatever it was known by: for an index, or since its file is to change.
+    pub needs_digests: bool,
 }
 
 /// What an index gets of a page that was kept.
@@ -22,8 +24,8 @@ pub struct IndexNote {
     pub at: Address,
     /// How many bytes its body has.
     pub len: u64,
-    /// The SHA-256 of these, if digests are computed.
-    pub digest: Option<[u8; 32]>,
+    /// By what its file is known, if that is known already: else by when it is changed last.
+    pub mark: Option<Mark>,
     /// What its head said.
     pub head: KeptHead,
 }

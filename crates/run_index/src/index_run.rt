@@ -481,15 +481,17 @@ impl<F: Drop> IndexRun<F> {
     fn earlier_of(
         &self,
         folder: &str,
-        upkeep: Upkeep,
+        order: &Order,
         known: MirrorIndex,
         answers: EarlierAnswers,
     ) -> Result<Arc<Earlier>, AllocError> {
+        let upkeep = order.upkeep;
         let folder = String::from_str(self.alloc, folder)?;
         let earlier = Earlier {
             pages: EarlierPages::new(self.alloc, folder, known),
             answers,
             is_asked: upkeep.timestamps,
+            needs_digests: keeps_index(upkeep) || order.converts,
         };
         in_common(self.alloc, earlier)
     }
@@ -529,7 +531,7 @@ impl<F: Drop> IndexRun<F> {
             starts.as_slice(),
             left.pages,
         )?;
-        let earlier = self.earlier_of(folder.as_str(), upkeep, pages, left.answers)?;
+        let earlier = self.earlier_of(folder.as_str(), order, pages, left.answers)?;
         self.note_answers(rt, left.texts);
         let begun = BegunRun {
             folder,

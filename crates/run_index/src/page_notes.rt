@@ -48,17 +48,17 @@ fn set_path(path: &mut String, folder: &str, name: &str) -> Result<(), AllocErro
     path.push_str(name)
 }
 
-// By what one sees later that a page's file has the bytes of its body: their digest, or when the file of this name was changed last, whose
-// path is in `path` then. None if no digest was computed and the page has no file yet, or the disk keeps no more than seconds.
+// By what one sees later that a page's file has the bytes of its body: by what it is known, or when the file of this name was changed last,
+// whose path is in `path` then. None if nothing is known and the page has no file yet, or the disk keeps no more than seconds.
 fn mark_of<R: Files>(
     rt: &R,
     path: &mut String,
     folder: &str,
     name: Option<&str>,
-    digest: Option<[u8; 32]>,
+    known: Option<Mark>,
 ) -> io::Result<Option<Mark>> {
-    if let Some(digest) = digest {
-        return Ok(Some(Mark::Digest(digest)));
+    if known.is_some() {
+        return Ok(known);
     }
     let Some(name) = name else {
         return Ok(None);
@@ -76,7 +76,7 @@ fn entry_of(note: IndexNote, name: String, mark: Mark) -> Entry {
     let IndexNote {
         at,
         len,
-        digest: _digest,
+        mark: _known,
         head,
     } = note;
     Entry::new(at, name, len, mark, head)
@@ -183,7 +183,7 @@ impl<'a, F: Drop> PageNotes<'a, F> {
             return Ok(());
         };
         let folder = begun.folder.as_str();
-        let Some(mark) = mark_of(rt, &mut self.path, folder, name.as_deref(), note.digest)? else {
+        let Some(mark) = mark_of(rt, &mut self.path, folder, name.as_deref(), note.mark)? else {
             return Ok(());
         };
         let is_named = name.is_some();

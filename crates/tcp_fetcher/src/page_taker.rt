@@ -40,11 +40,14 @@ where
     linker: PartLinker<'a, R>,
     /// Whether a page may stay in the file that an earlier run gave its name.
     pub(crate) may_stay: bool,
+    // Whether a page that is read again gets a digest, whatever it is known by.
+    digests: bool,
     // What took the last page, if its part is the file that it was read from, or a link to it.
     linked: Option<PageSink<Digesting<PartCounter>>>,
     rules: Option<Arc<EarlyRules>>,
-    // The SHA-256 of the body that was kept last, if digests are computed and the last page has one.
-    last: Option<[u8; 32]>,
+    // By what the file of the page that was kept last is known: the SHA-256 of its body, if that was computed, or the time at which the file
+    // of an earlier run was changed last, if it stays.
+    last: Option<Mark>,
     /// Whether what was answered last was requested over the network.
     pub(crate) is_requested: bool,
     // The text of the robots file that was received last, unless it was taken.
@@ -67,6 +70,7 @@ where
             passing,
             linker: _linker,
             may_stay: _may_stay,
+            digests: _digests,
             linked,
             rules: _rules,
             last: _last,
@@ -87,7 +91,8 @@ impl<'a, R: Net + Wait + Files> PageTaker<'a, R>
 where
     R::File: Close + Lock,
 {
-    /// Keeps the bodies of pages by this keeper, unless these rules don't keep them. Takes no memory.
+    /// Keeps the bodies of pages by this keeper, unless these rules don't keep them. A page that is read again gets a digest if it is known
+    /// by that, or if all are to get one. Takes no memory.
     pub(crate) fn new(
         rt: &'a R,
         alloc: Global,
@@ -95,12 +100,14 @@ where
         parts: &'a PartsDir<R::File>,
         keeper: Digesting<PartKeeper<'a, R>>,
         rules: Option<Arc<EarlyRules>>,
+        digests: bool,
     ) -> PageTaker<'a, R> {
         PageTaker {
             sink: PageSink::new(alloc, keeper),
             passing: PageSink::new(alloc, PartCounter::new()),
             linker: PartLinker::new(rt, alloc, parts),
             may_stay: false,
+            digests,
             linked: None,
             rules,
             last: None,
@@ -185,13 +192,13 @@ where
         }
     }
 
-    /// The answer, whose body's digest is that of the last one from then on.
+    /// The answer. The file of its body is known by its digest from then on, if it has one.
     pub(crate) fn taken(&mut self, answer: Answer<Digested<KeptPart>>) -> Answer<KeptPart>
         ensures { result ≡ without_digest answer }
     {
         let Answer { outcome, body } = answer;
         let Digested { kept, digest } = body;
-        self.last = digest;
+        self.last = mark_of(digest);
         Answer {
             outcome,
             body: kept,
@@ -213,14 +220,17 @@ where
         }
     }
 
-    // A page that was read again is the answer, if it was.
-    fn again(&mut self, read: Option<Answer<Digested<KeptPart>>>) -> Option<Answer<KeptPart>>
+    // A page that was read again is the answer, if it was. Its file is known as it was before, unless its digest is known now.
+    fn again(
+        &mut self,
+        read: Option<Answer<Digested<KeptPart>>>,
+        mark: Mark,
+    ) -> Option<Answer<KeptPart>>
         ensures { result ≡ option_map (λ answer. not_received (without_digest answer)) read }
     {
-        match read {
-            Some(answer) => Some(not_received(self.taken(answer))),
-            None => None,
-        }
+        let answer = not_received(self.taken(read?));
+        self.last = self.last.or(Some(mark));
+        Some(answer)
     }
 
     // What this sink read of a page's file, if it did and the file is in its place.
@@ -250,7 +260,8 @@ where
     ) -> Result<Option<Answer<Digested<KeptPart>>>, AllocError>
         ensures { IfOk result (λ found. IfSome found (IsReadAgain holds_received (limited limits) links at.now page.entry.entry)) }
     {
-        let mut sink = PageSink::new(self.alloc, Digesting::new(part, true));
+        let digests = self.digests || has_digest(page.entry().mark());
+        let mut sink = PageSink::new(self.alloc, Digesting::new(part, digests));
         match read_into(self.alloc, page, at, &mut sink, links, limits) {
             Ok(read) => Ok(self.in_place(sink, read)),
             Err(error) => {
@@ -286,8 +297,9 @@ where
     ) -> Result<Option<Answer<KeptPart>>, AllocError>
         ensures { IfOk result (λ found. IfSome found (IsRecordedIn (links, limited limits) at.now page.entry.entry)) }
     {
+        let mark = page.entry().mark();
         let read = self.read_file(at, page, links, limits)?;
-        Ok(self.again(read))
+        Ok(self.again(read, mark))
     }
 
     // The same of one of two files: this one, and the other that the page may have.
@@ -347,7 +359,7 @@ where
         Ok(Some(IndexNote {
             at,
             len: answer.body.len,
-            digest: self.last,
+            mark: self.last,
             head,
         }))
     }
@@ -390,6 +402,22 @@ fn has_status(outcome: &Outcome, said: u16) -> bool
     match outcome {
         Outcome::Page(status, _) | Outcome::Leaf(status) => *status == said,
         Outcome::Moved(_, _) | Outcome::Fault(_) => false,
+    }
+}
+
+// The mark of a body that has a digest.
+fn mark_of(digest: Option<[u8; 32]>) -> Option<Mark> {
+    match digest {
+        Some(digest) => Some(Mark::Digest(digest)),
+        None => None,
+    }
+}
+
+// Whether a file is known by its digest.
+fn has_digest(mark: Mark) -> bool {
+    match mark {
+        Mark::Digest(_) => true,
+        Mark::Changed(_) => false,
     }
 }
 

@@ -95,7 +95,15 @@ where
         let keeper = Digesting::new(keeper, earlier.is_some());
         PartsOverTcp {
             inner,
-            taker: PageTaker::new(rt, alloc, kept, parts, keeper, rules),
+            taker: PageTaker::new(
+                rt,
+                alloc,
+                kept,
+                parts,
+                keeper,
+                rules,
+                needs_digests(&earlier),
+            ),
             earlier,
             rt,
         }
@@ -316,6 +324,14 @@ where
         } else {
             None
         }
+    }
+}
+
+// Whether pages that are read again need digests, whatever they are known by.
+fn needs_digests(earlier: &Option<Arc<Earlier>>) -> bool {
+    match earlier {
+        Some(earlier) => earlier.needs_digests,
+        None => false,
     }
 }
 
